@@ -1,0 +1,16 @@
+use mathlib.Core.Path.{_∙_, ap}
+use Prim.Native.Nat.{_+_}
+use native.Mathlib.Omega.{arith}
+use lib.ListN.{take, set}
+use Rattle.sheets.proofs.ColumnCalls.{add-accepted, added}
+use Rattle.sheets.proofs.columns.ColumnSheet.add_step.Needs as need
+
+pub returns : need.returns
+returns c =
+    let s = c .args .self .now in
+    record {
+      answer = add-accepted (s .table) (s .count) (omega arith) (omega arith) (omega arith);
+      after =
+          ap (λ f. take (s .count + 1) (set (s .table) (s .count) f)) (c .empty .ensures)
+          ∙ added (s .table) (s .count) (omega arith) (omega arith) (omega arith);
+    }

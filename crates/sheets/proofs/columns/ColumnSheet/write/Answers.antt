@@ -1,0 +1,13 @@
+use mathlib.Core.Path.{_∙_, sym}
+use native.Mathlib.Omega.{arith}
+use Rattle.sheets.specs.Footprints.{after-write}
+use Rattle.sheets.proofs.ColumnCalls.{note-accepted, noted}
+use Rattle.sheets.proofs.columns.ColumnSheet.write.Needs as need
+
+pub returns : need.returns
+returns c =
+    let s = c .args .self .now in
+    record {
+      answer = c .write .ensures .answer ∙ note-accepted (s .table) (s .count) (omega arith) (omega arith) (c .args .column) (omega arith);
+      after = noted (s .table) (s .count) (omega arith) (omega arith) (after-write (c .args .column)) _ (omega arith) (c .write .ensures .after);
+    }

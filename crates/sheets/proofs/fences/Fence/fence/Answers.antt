@@ -1,0 +1,32 @@
+use mathlib.Core.Path.{refl}
+use native.Mathlib.Omega.{arith}
+use Rattle.sheets.proofs.FencePairs.{pair-put, pair-put-back, pair-again, pair-accepted}
+use Rattle.sheets.proofs.fences.Fence.fence.Needs as need
+
+pub returns-then-i-j-2 : need.returns-then-i-j-2
+returns-then-i-j-2 g c =
+    let s = c .args .self .now in
+    let i = c .args .i in
+    let j = c .args .j in
+    let few = g .S·Sheet .laws (s .below) .few in
+    let put = pair-put (s .pairs) i j _ (omega arith) (omega arith) (omega arith) (c .with .ensures) in
+    record {
+      answer = pair-accepted (g .S·Sheet .graph (s .below) .steps) i j (omega arith) (omega arith) (omega arith);
+      sheet = refl;
+      pairs = put;
+      again = pair-again (s .pairs) _ i j put;
+    }
+
+pub returns-else-i-j-2 : need.returns-else-i-j-2
+returns-else-i-j-2 g c =
+    let s = c .args .self .now in
+    let i = c .args .i in
+    let j = c .args .j in
+    let few = g .S·Sheet .laws (s .below) .few in
+    let put = pair-put-back (s .pairs) j i _ (omega arith) (omega arith) (omega arith) (c .with-else-i-j-2 .ensures) in
+    record {
+      answer = pair-accepted (g .S·Sheet .graph (s .below) .steps) i j (omega arith) (omega arith) (omega arith);
+      sheet = refl;
+      pairs = put;
+      again = pair-again (s .pairs) _ i j put;
+    }

@@ -1,0 +1,43 @@
+-- The column sheet keeps the laws of a sheet.
+-- Assumes nothing.
+use mathlib.Core.Path.{_≡_, refl, sym, ap, ap₂, _∙_}
+use mathlib.Core.Bool.{Bool, true, false, not, _&&_, _||_}
+use mathlib.Core.List.{List}
+use Prim.Native.Nat.{ℕ, _≤_, _<_}
+use native.Mathlib.Omega.{arith}
+use lib.Dec.{eqb, ltb}
+use lib.ListN.{length, getD, length-take}
+use Rattle.std.proofs.shelf.Tests.{ltb-true, eq-eqb, and-parts, and-right, and-left, not-from-true}
+use Rattle.bits.proofs.Tests.{or-swap, and-swap, eqb-swap}
+use Rattle.sheets.specs.declared.footprints.Footprint.{Footprint}
+use Rattle.sheets.specs.declared.columns.ColumnSheet.{ColumnSheet}
+use Rattle.sheets.specs.Limits.{limit}
+use Rattle.sheets.specs.Graphs.{Graph, Lawful}
+use Rattle.sheets.specs.Footprints.{blank, spoiling, meeting}
+use Rattle.sheets.specs.Columns.{footprints, column-clash, column-graph}
+
+irreflexive : (fs : List Footprint) (i : ℕ) → column-clash fs i i ≡ false
+irreflexive fs i =
+    and-right (ltb i (length fs) && ltb i (length fs)) _
+    (and-left (not (eqb i i)) (meeting (getD fs i blank) (getD fs i blank)) (not-from-true (eqb i i) (eq-eqb i i refl)))
+
+symmetric : (fs : List Footprint) (i j : ℕ) → column-clash fs i j ≡ column-clash fs j i
+symmetric fs i j =
+    let a : Footprint = getD fs i blank in
+    let b : Footprint = getD fs j blank in
+    ap₂ (λ (x y : Bool). x && y) (and-swap (ltb i (length fs)) (ltb j (length fs)))
+    (ap₂ (λ (x y : Bool). not x && y) (eqb-swap i j) (or-swap (spoiling a b) (spoiling b a)))
+
+inside : (fs : List Footprint) (i j : ℕ) → column-clash fs i j ≡ true → (i < length fs) × (j < length fs)
+inside fs i j h =
+    let p = and-parts (ltb i (length fs) && ltb j (length fs)) (not (eqb i j) && meeting (getD fs i blank) (getD fs j blank)) h in
+    let q = and-parts (ltb i (length fs)) (ltb j (length fs)) (p .0) in
+    (ltb-true i (length fs) (q .0), ltb-true j (length fs) (q .1))
+
+pub column-lawful : (s : ColumnSheet) → Lawful (column-graph (footprints s))
+column-lawful s = record {
+  few = let n : length (footprints s) ≤ limit = omega (arith, length-take (s .count) (s .table), s .few) in n;
+  irreflexive = irreflexive (footprints s);
+  symmetric = symmetric (footprints s);
+  inside = inside (footprints s);
+}

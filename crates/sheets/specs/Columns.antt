@@ -1,0 +1,46 @@
+-- The column sheet, by the list of its steps' footprints.
+use mathlib.Core.Bool.{Bool, not, _&&_, cond}
+use mathlib.Core.List.{List, [], _∷_, _++_}
+use mathlib.Core.Path.{_≡_}
+use Prim.Native.Nat.{ℕ, _-_, _<_}
+use lib.Dec.{eqb, ltb}
+use lib.ListN.{length, getD, set, take}
+use Rattle.sheets.specs.declared.footprints.Footprint.{Footprint}
+use Rattle.sheets.specs.declared.columns.ColumnSheet.{ColumnSheet}
+use Rattle.sheets.specs.Limits.{limit, columns}
+use Rattle.sheets.specs.Graphs.{Graph}
+use Rattle.sheets.specs.Footprints.{blank, column-refusal, meeting, Meets-in}
+
+-- the footprint of each step, step 0 first
+abbrev pub footprints : ColumnSheet → List Footprint
+footprints s = take (s .count) (s .table)
+
+-- two different steps clash when one writes a column that the other reads or writes
+abbrev pub column-clash : List Footprint → ℕ → ℕ → Bool
+column-clash fs i j = (ltb i (length fs) && ltb j (length fs)) && (not (eqb i j) && meeting (getD fs i blank) (getD fs j blank))
+
+-- the same in words: i and j are two different steps, and in some column they meet
+abbrev pub Clash-in-column : List Footprint → ℕ → ℕ → Type 0
+Clash-in-column fs i j =
+    (i < length fs) × (j < length fs) × (i ≡ j → ⊥)
+    × ((c : ℕ) × (c < columns) × Meets-in (getD fs i blank) (getD fs j blank) c)
+
+-- what a column sheet means
+abbrev pub column-graph : List Footprint → Graph
+column-graph fs = record { steps = length fs; clashes = column-clash fs }
+
+-- a step is refused where the limit is reached
+abbrev pub add-refusal : List Footprint → ℕ
+add-refusal fs = cond (ltb (length fs) limit) 0 7
+
+-- the footprints after a step was to be added
+abbrev pub after-add : List Footprint → List Footprint
+after-add fs = cond (ltb (length fs) limit) (fs ++ (blank ∷ [])) fs
+
+-- a column is refused before any step, and above the last column
+abbrev pub note-refusal : List Footprint → ℕ → ℕ
+note-refusal fs c = cond (eqb (length fs) 0) 5 (column-refusal c)
+
+-- the footprints after the latest step's was to change by f
+abbrev pub after-note : (Footprint → Footprint) → List Footprint → List Footprint
+after-note f fs = cond (eqb (length fs) 0) fs (set fs (length fs - 1) (f (getD fs (length fs - 1) blank)))

@@ -1,0 +1,28 @@
+-- A fence, by its table of pairs.
+use mathlib.Core.Bool.{Bool, not, _&&_, _||_, cond}
+use mathlib.Core.List.{List}
+use Prim.Native.Nat.{ℕ, min, max}
+use lib.Dec.{eqb, ltb}
+use lib.ListN.{getD}
+use Rattle.bits.specs.Sets.{has}
+use Rattle.sheets.specs.Graphs.{Graph}
+
+-- whether the pair of p and q, in either order, is in the table: the higher step has the lower in its set
+abbrev pub fenced : List ℕ → ℕ → ℕ → Bool
+fenced pairs p q = not (eqb p q) && has (getD pairs (max p q) 0) (min p q)
+
+-- whether p and q are i and j, in either order
+abbrev pub is-pair : ℕ → ℕ → ℕ → ℕ → Bool
+is-pair i j p q = (eqb p i && eqb q j) || (eqb p j && eqb q i)
+
+-- a step with itself is refused, then a step that is not below the count n
+abbrev pub fence-refusal : ℕ → ℕ → ℕ → ℕ
+fence-refusal n i j = cond (eqb i j) 9 (cond (ltb i n && ltb j n) 0 10)
+
+-- two steps clash when they clash below or their pair is fenced
+abbrev pub fence-clash : Graph → List ℕ → ℕ → ℕ → Bool
+fence-clash g pairs i j = (ltb i (g .steps) && ltb j (g .steps)) && (g .clashes i j || fenced pairs i j)
+
+-- what a fence over a sheet that means g means
+abbrev pub fence-graph : Graph → List ℕ → Graph
+fence-graph g pairs = record { steps = g .steps; clashes = fence-clash g pairs }

@@ -1,0 +1,57 @@
+-- Footprints: the columns that a step reads and writes, and when two steps meet in a column.
+use mathlib.Core.Path.{_≡_}
+use mathlib.Core.Bool.{Bool, true, cond, _&&_, _||_}
+use mathlib.Core.Logic.{_⊎_}
+use Prim.Native.Nat.{ℕ}
+use lib.Dec.{eqb, ltb}
+use Rattle.bits.specs.Sets.{width, has, mask-of, any}
+use Rattle.sheets.specs.declared.footprints.Footprint.{Footprint}
+use Rattle.sheets.specs.Limits.{columns}
+
+-- reads and writes nothing
+abbrev pub blank : Footprint
+blank = record { reads = 0; writes = 0 }
+
+-- the set m with c in it too
+abbrev pub adding : ℕ → ℕ → ℕ
+adding c m = mask-of width (λ q. has m q || eqb q c)
+
+-- the footprint f, which reads column c too
+abbrev pub reading : ℕ → Footprint → Footprint
+reading c f = record { reads = adding c (f .reads); writes = f .writes }
+
+-- the footprint f, which writes column c too
+abbrev pub writing : ℕ → Footprint → Footprint
+writing c f = record { reads = f .reads; writes = adding c (f .writes) }
+
+-- a column above the last is refused
+abbrev pub column-refusal : ℕ → ℕ
+column-refusal c = cond (ltb c columns) 0 8
+
+-- the footprint after a column was to be read
+abbrev pub after-read : ℕ → Footprint → Footprint
+after-read c f = cond (ltb c columns) (reading c f) f
+
+-- the footprint after a column was to be written
+abbrev pub after-write : ℕ → Footprint → Footprint
+after-write c f = cond (ltb c columns) (writing c f) f
+
+-- whether f writes column c
+abbrev pub writes-in : Footprint → ℕ → Bool
+writes-in f c = has (f .writes) c
+
+-- whether f reads or writes column c
+abbrev pub touches : Footprint → ℕ → Bool
+touches f c = has (f .reads) c || has (f .writes) c
+
+-- whether a writes some column that b reads or writes
+abbrev pub spoiling : Footprint → Footprint → Bool
+spoiling a b = any columns (λ c. writes-in a c && touches b c)
+
+-- whether one of the two writes some column that the other reads or writes
+abbrev pub meeting : Footprint → Footprint → Bool
+meeting a b = spoiling a b || spoiling b a
+
+-- a and b meet in column c: one writes it, and the other reads or writes it
+abbrev pub Meets-in : Footprint → Footprint → ℕ → Type 0
+Meets-in a b c = ((writes-in a c ≡ true) × (touches b c ≡ true)) ⊎ ((writes-in b c ≡ true) × (touches a c ≡ true))

@@ -1,0 +1,21 @@
+-- Steps and their clashes: what every sheet means.
+use mathlib.Core.Path.{_≡_}
+use mathlib.Core.Bool.{Bool, true, false}
+use Prim.Native.Nat.{ℕ, _<_, _≤_}
+use Rattle.sheets.specs.Limits.{limit}
+
+-- a conflict graph: how many steps there are, numbered from 0, and which two clash
+pub record Graph : Type 0 where
+  pub steps : ℕ
+  pub clashes : ℕ → ℕ → Bool
+
+-- the laws of a sheet
+pub record Lawful (g : Graph) : Type 0 where
+  -- there are no more steps than the limit
+  pub few : g .steps ≤ limit
+  -- no step clashes with itself
+  pub irreflexive : (i : ℕ) → g .clashes i i ≡ false
+  -- where i clashes with j, j clashes with i
+  pub symmetric : (i j : ℕ) → g .clashes i j ≡ g .clashes j i
+  -- only steps below the count clash
+  pub inside : (i j : ℕ) → g .clashes i j ≡ true → (i < g .steps) × (j < g .steps)

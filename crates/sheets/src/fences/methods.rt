@@ -1,0 +1,61 @@
+//! The calls that make a fence, fence pairs and give the sheet below back.
+ghost use mathlib.Core.Bool.{true, false, _||_, _&&_};
+ghost use mathlib.Core.Path.{_≡_};
+ghost use Prim.Native.Nat.{ℕ};
+ghost use lib.Dec.{eqb};
+ghost use Rattle.sheets.specs.Fences.{fenced, is-pair, fence-refusal};
+ghost use Rattle.sheets.specs.Refusals.{outcome};
+use crate::fences::Fence;
+use crate::interface::Sheet;
+use crate::limits::LIMIT;
+use crate::refusals::Refusal;
+
+impl<S: Sheet> Fence<S> {
+    /// A fence without pairs.
+    pub fn new(below: S) -> Fence<S>
+        ensures sheet { λ r. ⌜ r .below ≡ below ⌝ }
+        ensures pairs { λ r. ⌜ ((p q : ℕ) → fenced (r .pairs) p q ≡ false) ⌝ }
+    {
+        Fence {
+            below,
+            pairs: [0; LIMIT],
+        }
+    }
+
+    /// Fences a pair of steps. Refused: 9 for a step with itself, then 10 for a step that is not below the count.
+    pub fn fence(&mut self, i: usize, j: usize) -> Result<(), Refusal>
+        ensures answer { λ r. ⌜ outcome r ≡ fence-refusal (S·Sheet .graph (now (self .entry) .below) .steps) i j ⌝ }
+        ensures sheet { λ _. ⌜ now (self .exit) .below ≡ now (self .entry) .below ⌝ }
+        ensures pairs { λ r. ⌜ ((p q : ℕ) → fenced (now (self .exit) .pairs) p q ≡ (fenced (now (self .entry) .pairs) p q || (eqb (outcome r) 0 && is-pair i j p q))) ⌝ }
+        ensures again { λ _. ⌜ (fenced (now (self .entry) .pairs) i j ≡ true → (p q : ℕ) → fenced (now (self .exit) .pairs) p q ≡ fenced (now (self .entry) .pairs) p q) ⌝ }
+    {
+        if i == j {
+            return Err(Refusal::SelfFence);
+        }
+        let n = self.below.count();
+        if i >= n || j >= n {
+            return Err(Refusal::OutOfRange);
+        }
+        if i < j {
+            self.pairs[j] = bits::with(self.pairs[j], i);
+        } else {
+            self.pairs[i] = bits::with(self.pairs[i], j);
+        }
+        Ok(())
+    }
+
+    /// The sheet below.
+    pub fn below(&self) -> &S
+        ensures { λ r. ⌜ now r ≡ now (self .entry) .below ⌝ }
+    {
+        &self.below
+    }
+
+    /// Gives the sheet below back, and lets the fence go.
+    pub fn into_below(self) -> S
+        ensures { λ r. ⌜ r ≡ self .below ⌝ }
+    {
+        let Fence { below, pairs: _ } = self;
+        below
+    }
+}

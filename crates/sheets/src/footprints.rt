@@ -1,0 +1,69 @@
+//! What a step touches: the columns that it reads and those that it writes.
+ghost use mathlib.Core.Bool.{true};
+ghost use mathlib.Core.Path.{_≡_};
+ghost use Prim.Native.Nat.{ℕ, _<_};
+ghost use Rattle.std.specs.Orderings.{Decides};
+ghost use Rattle.sheets.specs.Footprints.{blank, spoiling, meeting, Meets-in, column-refusal, after-read, after-write};
+ghost use Rattle.sheets.specs.Limits.{columns};
+ghost use Rattle.sheets.specs.Refusals.{outcome};
+use crate::limits::COLUMNS;
+use crate::refusals::Refusal;
+use bits::Mask;
+
+/// The columns that a step reads and the columns that it writes.
+#[derive(Clone, Copy, PartialEq, Eq, Debug)]
+pub struct Footprint {
+    pub reads: Mask,
+    pub writes: Mask,
+}
+
+impl Footprint {
+    /// The footprint of a step that touches nothing.
+    pub fn empty() -> Footprint
+        ensures { λ r. ⌜ r ≡ blank ⌝ }
+    {
+        Footprint {
+            reads: 0,
+            writes: 0,
+        }
+    }
+
+    /// Adds a column that is read. Refused: 8 for a column above 31.
+    pub fn read(&mut self, column: usize) -> Result<(), Refusal>
+        ensures answer { λ r. ⌜ outcome r ≡ column-refusal column ⌝ }
+        ensures after { λ _. ⌜ now (self .exit) ≡ after-read column (now (self .entry)) ⌝ }
+    {
+        if column >= COLUMNS {
+            return Err(Refusal::BadColumn);
+        }
+        self.reads = bits::with(self.reads, column);
+        Ok(())
+    }
+
+    /// Adds a column that is written. Refused: 8 for a column above 31.
+    pub fn write(&mut self, column: usize) -> Result<(), Refusal>
+        ensures answer { λ r. ⌜ outcome r ≡ column-refusal column ⌝ }
+        ensures after { λ _. ⌜ now (self .exit) ≡ after-write column (now (self .entry)) ⌝ }
+    {
+        if column >= COLUMNS {
+            return Err(Refusal::BadColumn);
+        }
+        self.writes = bits::with(self.writes, column);
+        Ok(())
+    }
+
+    /// Whether one of two writes a column that the other reads or writes.
+    pub fn meets(&self, other: &Footprint) -> bool
+        ensures answer { λ r. ⌜ r ≡ meeting (now (self .entry)) (now (other .entry)) ⌝ }
+        ensures column { λ r. ⌜ Decides r ((c : ℕ) × (c < columns) × Meets-in (now (self .entry)) (now (other .entry)) c) ⌝ }
+    {
+        self.spoils(other) | other.spoils(self)
+    }
+
+    // Whether this one writes a column that the other reads or writes.
+    fn spoils(&self, other: &Footprint) -> bool
+        ensures { λ r. ⌜ r ≡ spoiling (now (self .entry)) (now (other .entry)) ⌝ }
+    {
+        !bits::disjoint(self.writes, bits::union(other.reads, other.writes))
+    }
+}

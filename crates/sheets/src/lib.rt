@@ -1,0 +1,17 @@
+//! Sheets: how many steps a runbook has and which of them clash, whatever the rule of clashing.
+mod columns;
+mod fences;
+mod footprints;
+mod interface;
+mod limits;
+mod refusals;
+
+pub use columns::ColumnSheet;
+pub use columns::SheetOfColumns;
+pub use fences::Fence;
+pub use fences::SheetOfFence;
+pub use footprints::Footprint;
+pub use interface::Sheet;
+pub use limits::COLUMNS;
+pub use limits::LIMIT;
+pub use refusals::Refusal;
