@@ -4,13 +4,14 @@ use Prim.Native.Nat.{ℕ, zero, suc, _+_, _*_, _/_, _%_, _^_, _<_, _≤_}
 use native.Mathlib.Nat.{pow-suc, div-one, div-div-eq-div-mul, mul-comm, not-suc-le-zero}
 use native.Mathlib.Omega.{arith}
 use mathlib.Core.Path.{_≡_, refl, sym, ap, ap₂, _∙_}
-use mathlib.Core.Bool.{Bool, true, false, cond, _||_}
+use mathlib.Core.Bool.{Bool, true, false, cond, not, _||_}
 use mathlib.Core.Logic.{_⊎_, inl, inr}
 use lib.Dec.{eqb}
-use Rattle.std.proofs.shelf.Tests.{true≢false, false≢true, both-ways, eqb-true, eqb-false, cases-bool, or-cases, or-left, or-right, cases-lt, cases-eq, ne-eqb, eq-eqb}
+use Rattle.std.proofs.shelf.Tests.{true≢false, false≢true, both-ways, not-true, not-from-false, eqb-true, eqb-false, cases-bool, or-cases, or-left, or-right, cases-lt, cases-eq, ne-eqb, eq-eqb}
 use Rattle.std.specs.declared.option.Option.{Option}
 use Rattle.std.specs.declared.option.Option.the-variants.{Some, None}
 use Rattle.bits.specs.Sets.{has, mask-of, any, first}
+use Rattle.bits.proofs.Tests.{same-tests}
 
 -- ---- a mask, bit by bit
 
@@ -94,6 +95,16 @@ mask-is i m f h e =
       | inr g ↦ has-above i m p h g ∙ sym (has-past i f p g)
     ])
 
+-- tests that agree below the bound give the same set
+pub mask-same : (i : ℕ) (f g : ℕ → Bool) → ((p : ℕ) → p < i → f p ≡ g p) → mask-of i f ≡ mask-of i g
+mask-same i f g e =
+    mask-ext _ _
+    (λ p.
+    elim (cases-lt p i) [
+      | inl l ↦ has-mask i f p l ∙ e p l ∙ sym (has-mask i g p l)
+      | inr h ↦ has-past i f p h ∙ sym (has-past i g p h)
+    ])
+
 -- ---- some number below a bound passes
 
 pub any-some : (i : ℕ) (f : ℕ → Bool) → any i f ≡ true → (r : ℕ) × (r < i) × (f r ≡ true)
@@ -118,6 +129,33 @@ pub any-same : (i : ℕ) (f g : ℕ → Bool) → ((r : ℕ) → r < i → f r �
 unfolding any
 any-same zero f g e = refl
 any-same (suc i) f g e = ap₂ (λ (x y : Bool). x || y) (e i (omega arith)) (any-same i f g (λ r h. e r (omega arith)))
+
+-- a set is empty exactly where no number passes: what `mask != 0` tells
+pub any-mask : (i : ℕ) (f : ℕ → Bool) → not (eqb (mask-of i f) 0) ≡ any i f
+any-mask i f = same-tests _ _ to-any from-any
+  where
+    to-any : not (eqb (mask-of i f) 0) ≡ true → any i f ≡ true
+    to-any e =
+        elim (cases-bool (any i f)) [
+          | inl h ↦ h
+          | inr h ↦
+              absurd
+              (both-ways _ (not-true _ e)
+              (eq-eqb (mask-of i f) 0
+              (mask-ext _ _
+              (λ p.
+              elim (cases-lt p i) [
+                | inl l ↦ has-mask i f p l ∙ any-none i f h p l ∙ sym (has-none p)
+                | inr g ↦ has-past i f p g ∙ sym (has-none p)
+              ]))))
+        ]
+
+    from-any : any i f ≡ true → not (eqb (mask-of i f) 0) ≡ true
+    from-any e =
+        let (r, l, h) = any-some i f e in
+        not-from-false _
+        (ne-eqb (mask-of i f) 0
+        (λ z. both-ways _ (has-none r) (ap (λ (m : ℕ). has m r) (sym z) ∙ has-mask i f r l ∙ h)))
 
 -- ---- the lowest number that passes
 

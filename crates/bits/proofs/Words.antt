@@ -12,11 +12,11 @@ use lib.Count.{trailingZeros, under}
 use lib.Pow.{pow-lt}
 use Rattle.std.specs.declared.option.Option.{Option}
 use Rattle.std.specs.declared.option.Option.the-variants.{Some, None}
-use Rattle.std.proofs.shelf.Tests.{both-ways, not-true, not-from-false, and-parts, and-from, and-left, and-right, eqb-true, eq-eqb, ne-eqb, cases-bool, cases-eq}
+use Rattle.std.proofs.shelf.Tests.{both-ways, not-true, not-from-false, and-from, and-left, and-right, eq-eqb, ne-eqb, cases-bool, cases-eq}
 use Rattle.std.proofs.shelf.Bits.{one-shl, or-lt, and-le-l}
-use Rattle.bits.specs.Sets.{has, mask-of, any, first}
+use Rattle.bits.specs.Sets.{has, mask-of, first}
 use Rattle.bits.proofs.Tests.{same-tests, or-false, and-true}
-use Rattle.bits.proofs.Sets.{has-low, has-suc, has-none, has-below, mask-ext, mask-is, any-some, any-of, First, first-only}
+use Rattle.bits.proofs.Sets.{has-low, has-suc, has-none, has-below, mask-ext, mask-is, First, first-only}
 
 -- ---- a & b, a | b
 
@@ -88,6 +88,9 @@ has-less w a b q h l = has-and a (2 ^ w - 1 - b) q ∙ ap (λ (t : Bool). has a 
 pub or-word : (w a b : ℕ) → a < 2 ^ w → b < 2 ^ w → bitOr a b ≡ mask-of w (λ q. has a q || has b q)
 or-word w a b ha hb = mask-is w _ _ (or-lt w a b ha hb) (λ q h. has-or a b q)
 
+pub and-word : (w a b : ℕ) → a < 2 ^ w → bitAnd a b ≡ mask-of w (λ q. has a q && has b q)
+and-word w a b ha = mask-is w _ _ (omega (arith, and-le-l a b)) (λ q h. has-and a b q)
+
 pub less-word : (w a b : ℕ) → a < 2 ^ w → b < 2 ^ w → bitAnd a (2 ^ w - 1 - b) ≡ mask-of w (λ q. has a q && not (has b q))
 less-word w a b ha hb = mask-is w _ _ (omega (arith, and-le-l a (2 ^ w - 1 - b))) (λ q h. has-less w a b q hb h)
 
@@ -113,35 +116,7 @@ pub without-past : (w m p : ℕ) → m < 2 ^ w → w ≤ p → m ≡ mask-of w (
 without-past w m p hm h =
     mask-is w _ _ hm (λ q l. sym (ap (λ (t : Bool). has m q && not t) (ne-eqb q p (λ e. omega arith)) ∙ and-true (has m q)))
 
--- ---- a & b == 0
-
--- no member in common
-pub and-none : (w a b : ℕ) → b < 2 ^ w → eqb (bitAnd a b) 0 ≡ not (any w (λ q. has a q && has b q))
-and-none w a b h = same-tests _ _ to-none from-none
-  where
-    to-none : eqb (bitAnd a b) 0 ≡ true → not (any w (λ q. has a q && has b q)) ≡ true
-    to-none e =
-        not-from-false _
-        (elim (cases-bool (any w (λ q. has a q && has b q))) [
-          | inr x ↦ x
-          | inl x ↦
-              let (q, l, y) = any-some w (λ q. has a q && has b q) x in
-              let z : bitAnd a b ≡ 0 = eqb-true _ _ e in
-              absurd (both-ways _ (has-none q) (rw (← z) (has-and a b q ∙ y)))
-        ])
-
-    from-none : not (any w (λ q. has a q && has b q)) ≡ true → eqb (bitAnd a b) 0 ≡ true
-    from-none e =
-        eq-eqb _ _
-        (mask-ext _ _
-        (λ q.
-        elim (cases-bool (has (bitAnd a b) q)) [
-          | inr x ↦ x ∙ sym (has-none q)
-          | inl x ↦
-              let y : (has a q && has b q) ≡ true = sym (has-and a b q) ∙ x in
-              let (u, v) = and-parts (has a q) (has b q) y in
-              absurd (both-ways _ (not-true _ e) (any-of w _ q (has-below w b q h v) y))
-        ]))
+-- ---- a member
 
 -- `m & (1 << p) != 0`: p is a member
 pub has-test : (w m p : ℕ) → p < w → not (eqb (bitAnd m ((1 * 2 ^ p) % 2 ^ w)) 0) ≡ has m p

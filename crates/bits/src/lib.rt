@@ -3,7 +3,7 @@ ghost use mathlib.Core.Bool.{true, not, _&&_, _||_};
 ghost use mathlib.Core.Path.{_≡_};
 ghost use Prim.Native.Nat.{ℕ};
 ghost use lib.Dec.{eqb};
-ghost use Rattle.bits.specs.Sets.{width, has, mask-of, any, first};
+ghost use Rattle.bits.specs.Sets.{width, has, mask-of, first};
 ghost use Rattle.std.specs.Orderings.{Decides};
 
 /// A set of numbers from 0 to 31: p is in it where bit p is 1.
@@ -46,18 +46,18 @@ pub fn union(a: Mask, b: Mask) -> Mask
     a | b
 }
 
+/// What is in both sets.
+pub fn intersection(a: Mask, b: Mask) -> Mask
+    ensures { λ r. ⌜ r ≡ mask-of width (λ q. has a q && has b q) ⌝ }
+{
+    a & b
+}
+
 /// What is in the first set and not in the second.
 pub fn difference(a: Mask, b: Mask) -> Mask
     ensures { λ r. ⌜ r ≡ mask-of width (λ q. has a q && not (has b q)) ⌝ }
 {
     a & !b
-}
-
-/// Whether no number is in both sets.
-pub fn disjoint(a: Mask, b: Mask) -> bool
-    ensures { λ r. ⌜ r ≡ not (any width (λ q. has a q && has b q)) ⌝ }
-{
-    a & b == 0
 }
 
 /// Whether two sets have the same members: equal masks, and no others, have.

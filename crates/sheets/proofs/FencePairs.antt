@@ -16,7 +16,8 @@ use Rattle.bits.specs.Sets.{width, has, mask-of}
 use Rattle.bits.proofs.Tests.{or-false, or-swap}
 use Rattle.bits.proofs.Sets.{has-none, has-mask}
 use Rattle.sheets.specs.Limits.{limit}
-use Rattle.sheets.specs.Fences.{fenced, is-pair, fence-refusal}
+use Rattle.sheets.specs.Graphs.{Graph, Lawful}
+use Rattle.sheets.specs.Fences.{fenced, is-pair, fence-refusal, fence-clash}
 use Rattle.sheets.specs.FenceLaws.{fenced-swap}
 
 -- ---- an empty table
@@ -87,6 +88,38 @@ pair-again ps qs i j put old p q =
               let (a, b) = and-parts (eqb p j) (eqb q i) k in
               ap₂ (fenced ps) (eqb-true p j a) (eqb-true q i b) ∙ fenced-swap ps j i ∙ old
         ]
+
+-- ---- the clashes of a fence
+
+-- a fence without pairs has the clashes of the sheet below
+pub clash-below : (g : Graph) → Lawful g → (pairs : List ℕ) → ((p q : ℕ) → fenced pairs p q ≡ false)
+    → (p q : ℕ) → fence-clash g pairs p q ≡ g .clashes p q
+clash-below g laws pairs none p q =
+    ap (λ (t : Bool). (ltb p (g .steps) && ltb q (g .steps)) && (g .clashes p q || t)) (none p q)
+    ∙ ap (λ (t : Bool). (ltb p (g .steps) && ltb q (g .steps)) && t) (or-false (g .clashes p q))
+    ∙ elim (cases-bool (g .clashes p q)) [
+      | inl t ↦
+          let (a, b) = laws .inside p q t in
+          ap₂ (λ (x y : Bool). (x && y) && g .clashes p q) (lt-ltb p (g .steps) a) (lt-ltb q (g .steps) b)
+      | inr f ↦ and-right (ltb p (g .steps) && ltb q (g .steps)) (g .clashes p q) f ∙ sym f
+    ]
+
+absorb : (a b f t : Bool) → (t ≡ true → a ≡ true) → (a && (b || (f || t))) ≡ ((a && (b || f)) || t)
+absorb true true f t h = refl
+absorb true false f t h = refl
+absorb false b f true h = h refl
+absorb false b f false h = refl
+
+-- one pair more: the steps of the pair clash, and all others as before
+pub clash-more : (g : Graph) (ps qs : List ℕ) (i j : ℕ) → i < g .steps → j < g .steps
+    → ((p q : ℕ) → fenced qs p q ≡ (fenced ps p q || is-pair i j p q))
+    → (p q : ℕ) → fence-clash g qs p q ≡ (fence-clash g ps p q || is-pair i j p q)
+clash-more g ps qs i j hi hj put p q =
+    ap (λ (t : Bool). (ltb p (g .steps) && ltb q (g .steps)) && (g .clashes p q || t)) (put p q)
+    ∙ absorb (ltb p (g .steps) && ltb q (g .steps)) (g .clashes p q) (fenced ps p q) (is-pair i j p q) below
+  where
+    below : is-pair i j p q ≡ true → (ltb p (g .steps) && ltb q (g .steps)) ≡ true
+    below h = grind (arith, tells)
 
 -- two different steps below the count are accepted
 pub pair-accepted : (n i j : ℕ) → (i ≡ j → ⊥) → i < n → j < n → 0 ≡ fence-refusal n i j

@@ -9,11 +9,12 @@ use lib.Dec.{eqb, ltb}
 use lib.ListN.{length, getD, length-take}
 use Rattle.std.proofs.shelf.Tests.{ltb-true, eq-eqb, and-parts, and-right, and-left, not-from-true}
 use Rattle.bits.proofs.Tests.{or-swap, and-swap, eqb-swap}
+use Rattle.bits.proofs.Sets.{any-same}
 use Rattle.sheets.specs.declared.footprints.Footprint.{Footprint}
 use Rattle.sheets.specs.declared.columns.ColumnSheet.{ColumnSheet}
-use Rattle.sheets.specs.Limits.{limit}
+use Rattle.sheets.specs.Limits.{limit, columns}
 use Rattle.sheets.specs.Graphs.{Graph, Lawful}
-use Rattle.sheets.specs.Footprints.{blank, spoiling, meeting}
+use Rattle.sheets.specs.Footprints.{blank, writes-in, touches, meeting}
 use Rattle.sheets.specs.Columns.{footprints, column-clash, column-graph}
 
 irreflexive : (fs : List Footprint) (i : ℕ) → column-clash fs i i ≡ false
@@ -26,7 +27,7 @@ symmetric fs i j =
     let a : Footprint = getD fs i blank in
     let b : Footprint = getD fs j blank in
     ap₂ (λ (x y : Bool). x && y) (and-swap (ltb i (length fs)) (ltb j (length fs)))
-    (ap₂ (λ (x y : Bool). not x && y) (eqb-swap i j) (or-swap (spoiling a b) (spoiling b a)))
+    (ap₂ (λ (x y : Bool). not x && y) (eqb-swap i j) (any-same columns _ _ (λ c h. or-swap (writes-in a c && touches b c) (writes-in b c && touches a c))))
 
 inside : (fs : List Footprint) (i j : ℕ) → column-clash fs i j ≡ true → (i < length fs) × (j < length fs)
 inside fs i j h =

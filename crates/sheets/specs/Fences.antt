@@ -1,4 +1,5 @@
 -- A fence, by its table of pairs.
+use mathlib.Core.Path.{_≡_}
 use mathlib.Core.Bool.{Bool, not, _&&_, _||_, cond}
 use mathlib.Core.List.{List}
 use Prim.Native.Nat.{ℕ, min, max}
@@ -26,3 +27,7 @@ fence-clash g pairs i j = (ltb i (g .steps) && ltb j (g .steps)) && (g .clashes 
 -- what a fence over a sheet that means g means
 abbrev pub fence-graph : Graph → List ℕ → Graph
 fence-graph g pairs = record { steps = g .steps; clashes = fence-clash g pairs }
+
+-- what a call of fence with the outcome k makes of a relation: as before, and the pair of i and j too where it was accepted
+abbrev pub Gains : ℕ → ℕ → ℕ → (ℕ → ℕ → Bool) → (ℕ → ℕ → Bool) → Type 0
+Gains k i j before after = (p q : ℕ) → after p q ≡ (before p q || (eqb k 0 && is-pair i j p q))

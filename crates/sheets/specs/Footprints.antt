@@ -44,14 +44,14 @@ writes-in f c = has (f .writes) c
 abbrev pub touches : Footprint → ℕ → Bool
 touches f c = has (f .reads) c || has (f .writes) c
 
--- whether a writes some column that b reads or writes
-abbrev pub spoiling : Footprint → Footprint → Bool
-spoiling a b = any columns (λ c. writes-in a c && touches b c)
+-- whether a and b meet in column c: one writes it, and the other reads or writes it
+abbrev pub meets-in : Footprint → Footprint → ℕ → Bool
+meets-in a b c = (writes-in a c && touches b c) || (writes-in b c && touches a c)
 
--- whether one of the two writes some column that the other reads or writes
+-- whether they meet in some column
 abbrev pub meeting : Footprint → Footprint → Bool
-meeting a b = spoiling a b || spoiling b a
+meeting a b = any columns (meets-in a b)
 
--- a and b meet in column c: one writes it, and the other reads or writes it
+-- a and b meet in column c, as a statement
 abbrev pub Meets-in : Footprint → Footprint → ℕ → Type 0
 Meets-in a b c = ((writes-in a c ≡ true) × (touches b c ≡ true)) ⊎ ((writes-in b c ≡ true) × (touches a c ≡ true))

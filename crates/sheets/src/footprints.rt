@@ -2,8 +2,9 @@
 ghost use mathlib.Core.Bool.{true};
 ghost use mathlib.Core.Path.{_≡_};
 ghost use Prim.Native.Nat.{ℕ, _<_};
+ghost use Rattle.bits.specs.Sets.{width, mask-of};
 ghost use Rattle.std.specs.Orderings.{Decides};
-ghost use Rattle.sheets.specs.Footprints.{blank, spoiling, meeting, Meets-in, column-refusal, after-read, after-write};
+ghost use Rattle.sheets.specs.Footprints.{blank, meets-in, meeting, Meets-in, column-refusal, after-read, after-write};
 ghost use Rattle.sheets.specs.Limits.{columns};
 ghost use Rattle.sheets.specs.Refusals.{outcome};
 use crate::limits::COLUMNS;
@@ -52,18 +53,20 @@ impl Footprint {
         Ok(())
     }
 
-    /// Whether one of two writes a column that the other reads or writes.
+    /// The columns in which two footprints meet: one writes the column, and the other reads or writes it.
+    pub fn shared(&self, other: &Footprint) -> Mask
+        ensures { λ r. ⌜ r ≡ mask-of width (meets-in (now (self .entry)) (now (other .entry))) ⌝ }
+    {
+        let ours = bits::intersection(self.writes, bits::union(other.reads, other.writes));
+        let theirs = bits::intersection(other.writes, bits::union(self.reads, self.writes));
+        bits::union(ours, theirs)
+    }
+
+    /// Whether two footprints meet in some column.
     pub fn meets(&self, other: &Footprint) -> bool
         ensures answer { λ r. ⌜ r ≡ meeting (now (self .entry)) (now (other .entry)) ⌝ }
         ensures column { λ r. ⌜ Decides r ((c : ℕ) × (c < columns) × Meets-in (now (self .entry)) (now (other .entry)) c) ⌝ }
     {
-        self.spoils(other) | other.spoils(self)
-    }
-
-    // Whether this one writes a column that the other reads or writes.
-    fn spoils(&self, other: &Footprint) -> bool
-        ensures { λ r. ⌜ r ≡ spoiling (now (self .entry)) (now (other .entry)) ⌝ }
-    {
-        !bits::disjoint(self.writes, bits::union(other.reads, other.writes))
+        self.shared(other) != 0
     }
 }

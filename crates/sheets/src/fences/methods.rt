@@ -1,9 +1,8 @@
 //! The calls that make a fence, fence pairs and give the sheet below back.
-ghost use mathlib.Core.Bool.{true, false, _||_, _&&_};
+ghost use mathlib.Core.Bool.{true, false};
 ghost use mathlib.Core.Path.{_≡_};
 ghost use Prim.Native.Nat.{ℕ};
-ghost use lib.Dec.{eqb};
-ghost use Rattle.sheets.specs.Fences.{fenced, is-pair, fence-refusal};
+ghost use Rattle.sheets.specs.Fences.{fenced, fence-refusal, fence-clash, Gains};
 ghost use Rattle.sheets.specs.Refusals.{outcome};
 use crate::fences::Fence;
 use crate::interface::Sheet;
@@ -15,6 +14,7 @@ impl<S: Sheet> Fence<S> {
     pub fn new(below: S) -> Fence<S>
         ensures sheet { λ r. ⌜ r .below ≡ below ⌝ }
         ensures pairs { λ r. ⌜ ((p q : ℕ) → fenced (r .pairs) p q ≡ false) ⌝ }
+        ensures clashes { λ r. ⌜ ((p q : ℕ) → fence-clash (S·Sheet .graph below) (r .pairs) p q ≡ S·Sheet .graph below .clashes p q) ⌝ }
     {
         Fence {
             below,
@@ -26,7 +26,8 @@ impl<S: Sheet> Fence<S> {
     pub fn fence(&mut self, i: usize, j: usize) -> Result<(), Refusal>
         ensures answer { λ r. ⌜ outcome r ≡ fence-refusal (S·Sheet .graph (now (self .entry) .below) .steps) i j ⌝ }
         ensures sheet { λ _. ⌜ now (self .exit) .below ≡ now (self .entry) .below ⌝ }
-        ensures pairs { λ r. ⌜ ((p q : ℕ) → fenced (now (self .exit) .pairs) p q ≡ (fenced (now (self .entry) .pairs) p q || (eqb (outcome r) 0 && is-pair i j p q))) ⌝ }
+        ensures pairs { λ r. ⌜ Gains (outcome r) i j (fenced (now (self .entry) .pairs)) (fenced (now (self .exit) .pairs)) ⌝ }
+        ensures clashes { λ r. ⌜ Gains (outcome r) i j (fence-clash (S·Sheet .graph (now (self .entry) .below)) (now (self .entry) .pairs)) (fence-clash (S·Sheet .graph (now (self .exit) .below)) (now (self .exit) .pairs)) ⌝ }
         ensures again { λ _. ⌜ (fenced (now (self .entry) .pairs) i j ≡ true → (p q : ℕ) → fenced (now (self .exit) .pairs) p q ≡ fenced (now (self .entry) .pairs) p q) ⌝ }
     {
         if i == j {

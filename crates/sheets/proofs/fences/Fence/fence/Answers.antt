@@ -1,6 +1,6 @@
 use mathlib.Core.Path.{refl}
 use native.Mathlib.Omega.{arith}
-use Rattle.sheets.proofs.FencePairs.{pair-put, pair-put-back, pair-again, pair-accepted}
+use Rattle.sheets.proofs.FencePairs.{pair-put, pair-put-back, pair-again, pair-accepted, clash-more}
 use Rattle.sheets.proofs.fences.Fence.fence.Needs as need
 
 pub returns-then-i-j-2 : need.returns-then-i-j-2
@@ -12,8 +12,9 @@ returns-then-i-j-2 g c =
     let put = pair-put (s .pairs) i j _ (omega arith) (omega arith) (omega arith) (c .with .ensures) in
     record {
       answer = pair-accepted (g .S·Sheet .graph (s .below) .steps) i j (omega arith) (omega arith) (omega arith);
-      sheet = refl;
+      sheet = refl {a = s .below};
       pairs = put;
+      clashes = clash-more (g .S·Sheet .graph (s .below)) (s .pairs) _ i j (omega arith) (omega arith) put;
       again = pair-again (s .pairs) _ i j put;
     }
 
@@ -26,7 +27,8 @@ returns-else-i-j-2 g c =
     let put = pair-put-back (s .pairs) j i _ (omega arith) (omega arith) (omega arith) (c .with-else-i-j-2 .ensures) in
     record {
       answer = pair-accepted (g .S·Sheet .graph (s .below) .steps) i j (omega arith) (omega arith) (omega arith);
-      sheet = refl;
+      sheet = refl {a = s .below};
       pairs = put;
+      clashes = clash-more (g .S·Sheet .graph (s .below)) (s .pairs) _ i j (omega arith) (omega arith) put;
       again = pair-again (s .pairs) _ i j put;
     }

@@ -1,10 +1,16 @@
-use mathlib.Core.Path.{sym, ap₂}
-use mathlib.Core.Bool.{_||_}
+use mathlib.Core.Path.{_∙_, ap}
+use mathlib.Core.Bool.{not}
+use lib.Dec.{eqb}
 use Rattle.std.proofs.shelf.Ways.{decides-at}
+use Rattle.bits.proofs.Sets.{any-mask}
+use Rattle.sheets.specs.Limits.{columns}
+use Rattle.sheets.specs.Footprints.{meets-in}
 use Rattle.sheets.proofs.Meetings.{meets-in-column}
 use Rattle.sheets.proofs.footprints.Footprint.meets.Needs as need
 
 pub returns : need.returns
 returns c =
-    let e = ap₂ (λ x y. x || y) (c .spoils .ensures) (c .spoils-2 .ensures) in
-    record { answer = e; column = decides-at _ _ e (meets-in-column (c .args .self .now) (c .args .other .now)) }
+    let a = c .args .self .now in
+    let b = c .args .other .now in
+    let e = ap (λ m. not (eqb m 0)) (c .shared .ensures) ∙ any-mask columns (meets-in a b) in
+    record { answer = e; column = decides-at _ _ e (meets-in-column a b) }
