@@ -5,12 +5,12 @@ use native.Mathlib.Nat.{pow-suc, div-one, div-div-eq-div-mul, mul-comm, not-suc-
 use native.Mathlib.Omega.{arith}
 use mathlib.Core.Path.{_≡_, refl, sym, ap, ap₂, _∙_}
 use mathlib.Core.Bool.{Bool, true, false, cond, not, _||_}
-use mathlib.Core.Logic.{_⊎_, inl, inr}
+use mathlib.Core.Logic.{inl, inr}
 use lib.Dec.{eqb}
 use Rattle.std.proofs.shelf.Tests.{true≢false, false≢true, both-ways, not-true, not-from-false, eqb-true, eqb-false, cases-bool, or-cases, or-left, or-right, cases-lt, cases-eq, ne-eqb, eq-eqb}
 use Rattle.std.specs.declared.option.Option.{Option}
 use Rattle.std.specs.declared.option.Option.the-variants.{Some, None}
-use Rattle.bits.specs.Sets.{has, mask-of, any, first}
+use Rattle.bits.specs.Sets.{has, mask-of, any, first, Lowest}
 use Rattle.bits.proofs.Tests.{same-tests}
 
 -- ---- a mask, bit by bit
@@ -61,14 +61,6 @@ has-past zero f p h = has-none p
 has-past (suc i) f zero h = absurd (not-suc-le-zero h)
 has-past (suc i) f (suc p) h =
     has-suc (mask-of (suc i) f) p ∙ ap (λ (n : ℕ). has n p) (bit-half (f 0) (mask-of i (λ p. f (suc p)))) ∙ has-past i (λ p. f (suc p)) p (omega arith)
-
--- the same at every p, where the test passes below the bound alone
-pub has-mask-all : (i : ℕ) (f : ℕ → Bool) → ((p : ℕ) → f p ≡ true → p < i) → (p : ℕ) → has (mask-of i f) p ≡ f p
-has-mask-all i f b p =
-    elim (cases-lt p i) [
-      | inl h ↦ has-mask i f p h
-      | inr h ↦ has-past i f p h ∙ elim (cases-bool (f p)) [ inl e ↦ absurd (let z = b p e in omega arith) | inr e ↦ sym e ]
-    ]
 
 -- ---- masks with the same members are equal
 
@@ -159,27 +151,22 @@ any-mask i f = same-tests _ _ to-any from-any
 
 -- ---- the lowest number that passes
 
--- what `first` answers
-abbrev pub First : ℕ → (ℕ → Bool) → Option ℕ → Type 0
-First i f (Some p) = (p < i) × (f p ≡ true) × ((q : ℕ) → q < p → f q ≡ false)
-First i f None = (q : ℕ) → q < i → f q ≡ false
-
-pub first-is : (i : ℕ) (f : ℕ → Bool) → First i f (first i f)
+pub first-is : (i : ℕ) (f : ℕ → Bool) → Lowest i f (first i f)
 unfolding first
 first-is zero f = λ q h. absurd (not-suc-le-zero h)
 first-is (suc i) f = go (first i f) (first-is i f) (f i) refl
   where
-    go : (o : Option ℕ) → First i f o → (b : Bool) → f i ≡ b
-        → First (suc i) f (elim o [ Some p ↦ Some p | None ↦ elim b [ true ↦ Some i | false ↦ None ] ])
+    go : (o : Option ℕ) → Lowest i f o → (b : Bool) → f i ≡ b
+        → Lowest (suc i) f (elim o [ Some p ↦ Some p | None ↦ elim b [ true ↦ Some i | false ↦ None ] ])
     go (Some p) h b e = (omega arith, h .1, h .2)
     go None h true e = (omega arith, e, h)
     go None h false e = λ q lt. elim (cases-eq q i) [ inl s ↦ rw s e | inr s ↦ h q (omega arith) ]
 
 -- no other answer fits
-pub first-only : (i : ℕ) (f : ℕ → Bool) (o : Option ℕ) → First i f o → o ≡ first i f
+pub first-only : (i : ℕ) (f : ℕ → Bool) (o : Option ℕ) → Lowest i f o → o ≡ first i f
 first-only i f o h = go o (first i f) h (first-is i f)
   where
-    go : (o o′ : Option ℕ) → First i f o → First i f o′ → o ≡ o′
+    go : (o o′ : Option ℕ) → Lowest i f o → Lowest i f o′ → o ≡ o′
     go None None h k = refl
     go None (Some p) h (pl, pe, ph) = absurd (both-ways _ (h p pl) pe)
     go (Some p) None (pl, pe, ph) k = absurd (both-ways _ (k p pl) pe)

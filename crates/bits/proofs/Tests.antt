@@ -2,8 +2,8 @@
 -- Assumes nothing.
 use Prim.Native.Nat.{ℕ}
 use mathlib.Core.Path.{_≡_, refl, sym, _∙_}
-use mathlib.Core.Bool.{Bool, true, false, not, _&&_, _||_}
-use mathlib.Core.Logic.{_⊎_, inl, inr}
+use mathlib.Core.Bool.{Bool, true, false, _&&_, _||_}
+use mathlib.Core.Logic.{inl, inr}
 use lib.Dec.{eqb}
 use Rattle.std.proofs.shelf.Tests.{cases-eq, eq-eqb, ne-eqb}
 
@@ -12,10 +12,6 @@ pub same-tests : (b c : Bool) → (b ≡ true → c ≡ true) → (c ≡ true �
 same-tests true c h k = sym (h refl)
 same-tests false true h k = k refl
 same-tests false false h k = refl
-
-pub not-not : (b : Bool) → not (not b) ≡ b
-not-not true = refl
-not-not false = refl
 
 pub or-false : (b : Bool) → (b || false) ≡ b
 or-false true = refl

@@ -1,22 +1,21 @@
 -- What the machine's operations on words do to the members: `<<`, `&`, `|`, `!`, `==` and `trailing_zeros`.
 -- Assumes nothing.
-use Prim.Native.Nat.{ℕ, zero, suc, _+_, _-_, _*_, _/_, _%_, _^_, _<_, _≤_}
+use Prim.Native.Nat.{ℕ, zero, suc, _-_, _*_, _/_, _%_, _^_, _<_, _≤_}
 use native.Mathlib.Nat.{not-suc-le-zero}
 use native.Mathlib.Omega.{arith}
 use mathlib.Core.Path.{_≡_, refl, sym, ap, _∙_}
 use mathlib.Core.Bool.{Bool, true, false, not, _&&_, _||_}
-use mathlib.Core.Logic.{_⊎_, inl, inr}
+use mathlib.Core.Logic.{inl, inr}
 use lib.Dec.{eqb, eqb·suc-suc}
 use lib.Bits.{bitAnd, bitOr, and-shr, and-mod, or-shr, or-mod}
 use lib.Count.{trailingZeros, under}
 use lib.Pow.{pow-lt}
-use Rattle.std.specs.declared.option.Option.{Option}
-use Rattle.std.specs.declared.option.Option.the-variants.{Some, None}
+use Rattle.std.specs.declared.option.Option.the-variants.{Some}
 use Rattle.std.proofs.shelf.Tests.{both-ways, not-true, not-from-false, and-from, and-left, and-right, eq-eqb, ne-eqb, cases-bool, cases-eq}
 use Rattle.std.proofs.shelf.Bits.{one-shl, or-lt, and-le-l}
-use Rattle.bits.specs.Sets.{has, mask-of, first}
+use Rattle.bits.specs.Sets.{has, mask-of, first, Lowest}
 use Rattle.bits.proofs.Tests.{same-tests, or-false, and-true}
-use Rattle.bits.proofs.Sets.{has-low, has-suc, has-none, has-below, mask-ext, mask-is, First, first-only}
+use Rattle.bits.proofs.Sets.{has-low, has-suc, has-none, mask-ext, mask-is, first-only}
 
 -- ---- a & b, a | b
 
@@ -150,13 +149,13 @@ has-test w m p h = same-tests _ _ to-has from-has
 
 -- ---- the lowest member, by `trailing_zeros`
 
-trailing : (k m : ℕ) → 0 < m → m < 2 ^ k → First k (has m) (Some (trailingZeros k m))
+pub trailing : (k m : ℕ) → 0 < m → m < 2 ^ k → Lowest k (has m) (Some (trailingZeros k m))
 unfolding trailingZeros
 trailing zero m a b = absurd (omega arith)
 trailing (suc k) m a b = go (m % 2) refl (λ e. trailing k (m / 2) (omega arith) (omega arith))
   where
-    go : (d : ℕ) → m % 2 ≡ d → (m % 2 ≡ 0 → First k (has (m / 2)) (Some (trailingZeros k (m / 2))))
-        → First (suc k) (has m) (Some (under d (trailingZeros k (m / 2))))
+    go : (d : ℕ) → m % 2 ≡ d → (m % 2 ≡ 0 → Lowest k (has (m / 2)) (Some (trailingZeros k (m / 2))))
+        → Lowest (suc k) (has m) (Some (under d (trailingZeros k (m / 2))))
     go zero e r =
         let (x, y, z) = r e in
         (omega arith, has-suc m _ ∙ y, low)

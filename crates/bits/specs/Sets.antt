@@ -1,6 +1,7 @@
 -- Sets of small numbers as masks, and searches over the numbers below a bound.
 -- Assumes nothing.
-use Prim.Native.Nat.{ℕ, zero, suc, _+_, _*_, _/_, _%_, _^_}
+use Prim.Native.Nat.{ℕ, zero, suc, _+_, _*_, _/_, _%_, _^_, _<_}
+use mathlib.Core.Path.{_≡_}
 use mathlib.Core.Bool.{Bool, true, false, cond, _||_}
 use lib.Dec.{eqb}
 use Rattle.std.specs.declared.option.Option.{Option}
@@ -28,3 +29,8 @@ any (suc i) f = f i || any i f
 unfoldable pub first : ℕ → (ℕ → Bool) → Option ℕ
 first zero f = None
 first (suc i) f = elim (first i f) [ Some p ↦ Some p | None ↦ elim (f i) [ true ↦ Some i | false ↦ None ] ]
+
+-- o tells the lowest number below i that passes f: it passes and none below it does; or none passes
+abbrev pub Lowest : ℕ → (ℕ → Bool) → Option ℕ → Type 0
+Lowest i f (Some p) = (p < i) × (f p ≡ true) × ((q : ℕ) → q < p → f q ≡ false)
+Lowest i f None = (q : ℕ) → q < i → f q ≡ false

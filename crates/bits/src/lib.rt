@@ -1,9 +1,9 @@
 //! Sets of small numbers, as masks: steps of a sheet, columns of a table.
-ghost use mathlib.Core.Bool.{true, not, _&&_, _||_};
+ghost use mathlib.Core.Bool.{not, _&&_, _||_};
 ghost use mathlib.Core.Path.{_≡_};
 ghost use Prim.Native.Nat.{ℕ};
 ghost use lib.Dec.{eqb};
-ghost use Rattle.bits.specs.Sets.{width, has, mask-of, first};
+ghost use Rattle.bits.specs.Sets.{width, has, mask-of, first, Lowest};
 ghost use Rattle.std.specs.Orderings.{Decides};
 
 /// A set of numbers from 0 to 31: p is in it where bit p is 1.
@@ -69,7 +69,8 @@ pub fn same(a: Mask, b: Mask) -> bool
 
 /// The lowest number in the set; none where the set is empty.
 pub fn lowest(set: Mask) -> Option<usize>
-    ensures { λ r. ⌜ r ≡ first width (has set) ⌝ }
+    ensures answer { λ r. ⌜ r ≡ first width (has set) ⌝ }
+    ensures lowest { λ r. ⌜ Lowest width (has set) r ⌝ }
 {
     if set == 0 {
         return None;

@@ -1,7 +1,7 @@
 -- The column sheet keeps the laws of a sheet.
 -- Assumes nothing.
-use mathlib.Core.Path.{_≡_, refl, sym, ap, ap₂, _∙_}
-use mathlib.Core.Bool.{Bool, true, false, not, _&&_, _||_}
+use mathlib.Core.Path.{_≡_, refl, ap₂}
+use mathlib.Core.Bool.{Bool, true, false, not, _&&_}
 use mathlib.Core.List.{List}
 use Prim.Native.Nat.{ℕ, _≤_, _<_}
 use native.Mathlib.Omega.{arith}
@@ -13,7 +13,7 @@ use Rattle.bits.proofs.Sets.{any-same}
 use Rattle.sheets.specs.declared.footprints.Footprint.{Footprint}
 use Rattle.sheets.specs.declared.columns.ColumnSheet.{ColumnSheet}
 use Rattle.sheets.specs.Limits.{limit, columns}
-use Rattle.sheets.specs.Graphs.{Graph, Lawful}
+use Rattle.sheets.specs.Graphs.{Lawful}
 use Rattle.sheets.specs.Footprints.{blank, writes-in, touches, meeting}
 use Rattle.sheets.specs.Columns.{footprints, column-clash, column-graph}
 

@@ -1,8 +1,7 @@
 //! What a step touches: the columns that it reads and those that it writes.
-ghost use mathlib.Core.Bool.{true};
 ghost use mathlib.Core.Path.{_≡_};
 ghost use Prim.Native.Nat.{ℕ, _<_};
-ghost use Rattle.bits.specs.Sets.{width, mask-of};
+ghost use Rattle.bits.specs.Sets.{mask-of};
 ghost use Rattle.std.specs.Orderings.{Decides};
 ghost use Rattle.sheets.specs.Footprints.{blank, meets-in, meeting, Meets-in, column-refusal, after-read, after-write};
 ghost use Rattle.sheets.specs.Limits.{columns};
@@ -55,7 +54,7 @@ impl Footprint {
 
     /// The columns in which two footprints meet: one writes the column, and the other reads or writes it.
     pub fn shared(&self, other: &Footprint) -> Mask
-        ensures { λ r. ⌜ r ≡ mask-of width (meets-in (now (self .entry)) (now (other .entry))) ⌝ }
+        ensures { λ r. ⌜ r ≡ mask-of columns (meets-in (now (self .entry)) (now (other .entry))) ⌝ }
     {
         let ours = bits::intersection(self.writes, bits::union(other.reads, other.writes));
         let theirs = bits::intersection(other.writes, bits::union(self.reads, self.writes));

@@ -1,4 +1,4 @@
-use mathlib.Core.Path.{_∙_, sym}
+use mathlib.Core.Path.{_∙_}
 use native.Mathlib.Omega.{arith}
 use Rattle.sheets.specs.Footprints.{after-write}
 use Rattle.sheets.proofs.ColumnCalls.{note-accepted, noted}
