@@ -10,16 +10,18 @@ use crate::limits::COLUMNS;
 use crate::refusals::Refusal;
 use bits::Mask;
 
-/// The columns that a step reads and the columns that it writes.
+/// What a step touches: two sets of columns.
 #[derive(Clone, Copy, PartialEq, Eq, Debug)]
 pub struct Footprint {
+    /// the columns that it reads
     pub reads: Mask,
+    /// the columns that it writes
     pub writes: Mask,
 }
 
 impl Footprint {
     /// The footprint of a step that touches nothing.
-    pub fn empty() -> Footprint
+    pub fn blank() -> Footprint
         ensures { λ r. ⌜ r ≡ blank ⌝ }
     {
         Footprint {

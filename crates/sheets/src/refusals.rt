@@ -5,41 +5,41 @@ ghost use Rattle.sheets.specs.Refusals.{number-of};
 /// The reason for which a call is refused; each has a number.
 #[derive(Clone, Copy, PartialEq, Eq, Debug)]
 pub enum Refusal {
-    // a runbook's text is over 8,192 bytes
+    /// a runbook's text is over 8,192 bytes
     LongText,
-    // a byte that is in no word and is no space or line end
+    /// a byte that is in no word and is no space or line end
     StrayByte,
-    // a word over 12 bytes
+    /// a word over 12 bytes
     LongWord,
-    // a line that has none of the four forms, or no line end
+    /// a line that has none of the four forms, or no line end
     BadLine,
-    // a column is read or written before any step, or a fence line has a step that was not named
+    /// a column is read or written before any step, or a fence line has a step that was not named
     NoStep,
-    // a name is given twice
+    /// a name is given twice
     RepeatedName,
-    // one step more than the limit
+    /// one step more than the limit
     TooManySteps,
-    // a word that is no column, or a column above 31
+    /// a word that is no column, or a column above 31
     BadColumn,
-    // a fence of a step with itself
+    /// a fence of a step with itself
     SelfFence,
-    // a step that is not below the count, or a cell that is not below the width
+    /// a step that is not below the count, or a cell that is not below the width
     OutOfRange,
-    // next, where no orientation is left
+    /// next, where no orientation is left
     NoneLeft,
-    // look, where the walk stands at no orientation
+    /// look, where the walk stands at no orientation
     NotStanding,
-    // a buffer that is too short for what is to be written
+    /// a buffer that is too short for what is to be written
     ShortBuffer,
-    // bytes that are no walk's bookmark
+    /// bytes that are no walk's bookmark
     UnsoundBookmark,
-    // a bookmark of another count or of other clashes
+    /// a bookmark of another count or of other clashes
     ForeignBookmark,
-    // a list that is not each step exactly once and nothing else
+    /// a list that is not each step exactly once and nothing else
     NotEachOnce,
-    // contents of another length than the width
+    /// contents of another length than the width
     WrongWidth,
-    // a shelf step that drops and raises one mark
+    /// a shelf step that drops and raises one mark
     OpposedMarks,
 }
 

@@ -72,7 +72,7 @@ fn columns_up_to_the_last() -> Result<(), Fail> {
     check_eq(outcome(sheet.read(32)), 8)?;
     check_eq(outcome(sheet.write(32)), 8)?;
     check_eq(outcome(sheet.write(usize::MAX)), 8)?;
-    check_eq(sheet.footprint(0), Some(Footprint::empty()))?;
+    check_eq(sheet.footprint(0), Some(Footprint::blank()))?;
     check_eq(outcome(sheet.read(31)), 0)?;
     check_eq(outcome(sheet.read(31)), 0)?;
     check_eq(outcome(sheet.write(0)), 0)?;

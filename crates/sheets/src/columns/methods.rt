@@ -16,7 +16,7 @@ impl ColumnSheet {
         ensures { λ r. ⌜ footprints r ≡ [] ⌝ }
     {
         ColumnSheet {
-            table: [Footprint::empty(); LIMIT],
+            table: [Footprint::blank(); LIMIT],
             count: 0,
         }
     }
@@ -29,7 +29,7 @@ impl ColumnSheet {
         if self.count >= LIMIT {
             return Err(Refusal::TooManySteps);
         }
-        self.table[self.count] = Footprint::empty();
+        self.table[self.count] = Footprint::blank();
         self.count += 1;
         Ok(())
     }

@@ -11,6 +11,6 @@ returns c =
     record {
       answer = add-accepted (s .table) (s .count) (omega arith) (omega arith) (omega arith);
       after =
-          ap (λ f. take (s .count + 1) (set (s .table) (s .count) f)) (c .empty .ensures)
+          ap (λ f. take (s .count + 1) (set (s .table) (s .count) f)) (c .blank .ensures)
           ∙ added (s .table) (s .count) (omega arith) (omega arith) (omega arith);
     }
