@@ -87,6 +87,10 @@ mask-is i m f h e =
       | inr g ↦ has-above i m p h g ∙ sym (has-past i f p g)
     ])
 
+-- the members of a mask that is such a set
+pub mask-members : (i m : ℕ) (f : ℕ → Bool) → m ≡ mask-of i f → (q : ℕ) → q < i → has m q ≡ f q
+mask-members i m f e q h = ap (λ (n : ℕ). has n q) e ∙ has-mask i f q h
+
 -- tests that agree below the bound give the same set
 pub mask-same : (i : ℕ) (f g : ℕ → Bool) → ((p : ℕ) → p < i → f p ≡ g p) → mask-of i f ≡ mask-of i g
 mask-same i f g e =

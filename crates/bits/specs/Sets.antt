@@ -20,6 +20,14 @@ unfoldable pub mask-of : ℕ → (ℕ → Bool) → ℕ
 mask-of zero f = 0
 mask-of (suc i) f = cond (f 0) 1 0 + 2 * mask-of i (λ p. f (suc p))
 
+-- the set m with p in it too; a p that masks have no room for adds nothing. inserted 1 2 is 5
+abbrev pub inserted : ℕ → ℕ → ℕ
+inserted m p = mask-of width (λ q. has m q || eqb q p)
+
+-- m is the set of the numbers with room in a mask that pass f
+abbrev pub Members : ℕ → (ℕ → Bool) → Type 0
+Members m f = (q : ℕ) → q < width → has m q ≡ f q
+
 -- whether some p below i has f p
 unfoldable pub any : ℕ → (ℕ → Bool) → Bool
 any zero f = false

@@ -3,14 +3,14 @@ ghost use mathlib.Core.Bool.{not, _&&_, _||_};
 ghost use mathlib.Core.Path.{_≡_};
 ghost use Prim.Native.Nat.{ℕ};
 ghost use lib.Dec.{eqb};
-ghost use Rattle.bits.specs.Sets.{width, has, mask-of, first, Lowest};
+ghost use Rattle.bits.specs.Sets.{width, has, mask-of, inserted, Members, first, Lowest};
 ghost use Rattle.std.specs.Orderings.{Decides};
 
 /// A set of numbers from 0 to 31: p is in it where bit p is 1.
 pub type Mask = u32;
 
-// How many numbers a mask has room for.
-const WIDTH: usize = 32;
+/// How many numbers a mask has room for.
+pub const WIDTH: usize = 32;
 
 /// Whether p is in the set. No number above 31 is.
 pub fn member(set: Mask, p: usize) -> bool
@@ -21,7 +21,8 @@ pub fn member(set: Mask, p: usize) -> bool
 
 /// The set with p in it too. A number above 31 adds nothing.
 pub fn with(set: Mask, p: usize) -> Mask
-    ensures { λ r. ⌜ r ≡ mask-of width (λ q. has set q || eqb q p) ⌝ }
+    ensures answer { λ r. ⌜ r ≡ inserted set p ⌝ }
+    ensures members { λ r. ⌜ Members r (λ q. has set q || eqb q p) ⌝ }
 {
     if p >= WIDTH {
         return set;
@@ -31,7 +32,8 @@ pub fn with(set: Mask, p: usize) -> Mask
 
 /// The set without p.
 pub fn without(set: Mask, p: usize) -> Mask
-    ensures { λ r. ⌜ r ≡ mask-of width (λ q. has set q && not (eqb q p)) ⌝ }
+    ensures answer { λ r. ⌜ r ≡ mask-of width (λ q. has set q && not (eqb q p)) ⌝ }
+    ensures members { λ r. ⌜ Members r (λ q. has set q && not (eqb q p)) ⌝ }
 {
     if p >= WIDTH {
         return set;
@@ -41,21 +43,24 @@ pub fn without(set: Mask, p: usize) -> Mask
 
 /// What is in one of two sets or in both.
 pub fn union(a: Mask, b: Mask) -> Mask
-    ensures { λ r. ⌜ r ≡ mask-of width (λ q. has a q || has b q) ⌝ }
+    ensures answer { λ r. ⌜ r ≡ mask-of width (λ q. has a q || has b q) ⌝ }
+    ensures members { λ r. ⌜ Members r (λ q. has a q || has b q) ⌝ }
 {
     a | b
 }
 
 /// What is in both sets.
 pub fn intersection(a: Mask, b: Mask) -> Mask
-    ensures { λ r. ⌜ r ≡ mask-of width (λ q. has a q && has b q) ⌝ }
+    ensures answer { λ r. ⌜ r ≡ mask-of width (λ q. has a q && has b q) ⌝ }
+    ensures members { λ r. ⌜ Members r (λ q. has a q && has b q) ⌝ }
 {
     a & b
 }
 
 /// What is in the first set and not in the second.
 pub fn difference(a: Mask, b: Mask) -> Mask
-    ensures { λ r. ⌜ r ≡ mask-of width (λ q. has a q && not (has b q)) ⌝ }
+    ensures answer { λ r. ⌜ r ≡ mask-of width (λ q. has a q && not (has b q)) ⌝ }
+    ensures members { λ r. ⌜ Members r (λ q. has a q && not (has b q)) ⌝ }
 {
     a & !b
 }

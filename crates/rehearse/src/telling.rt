@@ -97,7 +97,7 @@ fn tell_pair(
     }
     match (runbook.footprint(i), runbook.footprint(j)) {
         (Some(one), Some(other)) if one.meets(&other) => {
-            let columns = column_names(rt.alloc(), one.shared(&other))?;
+            let columns = column_names(rt.alloc(), one.meeting_columns(&other))?;
             println!(
                 rt,
                 "  {i} {first}, {j} {second}: clash by footprint, in {columns}"

@@ -12,7 +12,7 @@ use lib.Seq.{getD-set-same, getD-set-other}
 use Rattle.std.proofs.shelf.Tests.{eqb-true, lt-ltb, ne-eqb, cases-eq, cases-lt, cases-bool, and-parts, and-right, or-cases}
 use Rattle.std.proofs.shelf.Lists.{getD-past, getD-replicate}
 use Rattle.std.proofs.shelf.Ways.{tells}
-use Rattle.bits.specs.Sets.{width, has, mask-of}
+use Rattle.bits.specs.Sets.{width, has, inserted}
 use Rattle.bits.proofs.Tests.{or-false, or-swap}
 use Rattle.bits.proofs.Sets.{has-none, has-mask}
 use Rattle.sheets.specs.Limits.{limit}
@@ -47,7 +47,7 @@ spread false h e = refl
 
 -- the pair of lo and hi is put into the table: m is the set of hi with lo in it too
 module _ (ps : List ℕ) (lo hi m : ℕ) (h : lo < hi) (l : hi < limit) (whole : length ps ≡ limit)
-    (more : m ≡ mask-of width (λ r. has (getD ps hi 0) r || eqb r lo)) where
+    (more : m ≡ inserted (getD ps hi 0) lo) where
   pub pair-put : (p q : ℕ) → fenced (set ps hi m) p q ≡ (fenced ps p q || is-pair lo hi p q)
   pair-put p q =
       elim (cases-eq (max p q) hi) [

@@ -6,26 +6,21 @@ use mathlib.Core.Logic.{inl, inr}
 use Prim.Native.Nat.{ℕ, _<_}
 use Rattle.std.specs.Orderings.{Decides}
 use Rattle.std.proofs.shelf.Tests.{and-parts, and-from, or-cases, or-left, or-right}
-use Rattle.bits.specs.Sets.{width, has, mask-of}
-use Rattle.bits.proofs.Sets.{has-mask, mask-same, any-some, any-of}
+use Rattle.bits.specs.Sets.{width, has, mask-of, Members}
+use Rattle.bits.proofs.Sets.{mask-same, any-some, any-of}
 use Rattle.sheets.specs.declared.footprints.Footprint.{Footprint}
 use Rattle.sheets.specs.Limits.{columns}
 use Rattle.sheets.specs.Footprints.{writes-in, touches, meets-in, meeting, Meets-in}
 
--- the set that the code makes of writes and of the other's reads and writes, half by half
-module _ (a b : Footprint) where
-  half : (m t : ℕ) → t ≡ mask-of width (touches b) → m ≡ mask-of width (λ q. has (a .writes) q && has t q)
-      → (q : ℕ) → q < width → has m q ≡ (writes-in a q && touches b q)
-  half m t et em q h =
-      ap (λ (x : ℕ). has x q) em ∙ has-mask width (λ q. has (a .writes) q && has t q) q h
-      ∙ ap (λ (x : Bool). writes-in a q && x) (ap (λ (x : ℕ). has x q) et ∙ has-mask width (touches b) q h)
+-- what a writes of t, the columns that b touches
+pub writes-touched : (a b : Footprint) (t m : ℕ) → Members t (touches b) → Members m (λ q. has (a .writes) q && has t q)
+    → Members m (λ q. writes-in a q && touches b q)
+writes-touched a b t m et em q h = em q h ∙ ap (λ (x : Bool). writes-in a q && x) (et q h)
 
-pub shared-columns : (a b : Footprint) (t u x y : ℕ)
-    → t ≡ mask-of width (touches b) → x ≡ mask-of width (λ q. has (a .writes) q && has t q)
-    → u ≡ mask-of width (touches a) → y ≡ mask-of width (λ q. has (b .writes) q && has u q)
-    → mask-of width (λ q. has x q || has y q) ≡ mask-of width (meets-in a b)
-shared-columns a b t u x y et ex eu ey =
-    mask-same width _ _ (λ q h. ap₂ (λ (v w : Bool). v || w) (half a b x t et ex q h) (half b a y u eu ey q h))
+-- the columns in which they meet, from the two halves x and y
+pub meeting-mask : (a b : Footprint) (x y : ℕ) → Members x (λ q. writes-in a q && touches b q) → Members y (λ q. writes-in b q && touches a q)
+    → mask-of width (λ q. has x q || has y q) ≡ mask-of columns (meets-in a b)
+meeting-mask a b x y ex ey = mask-same width _ _ (λ q h. ap₂ (λ (v w : Bool). v || w) (ex q h) (ey q h))
 
 -- two footprints meet exactly where some column is written by one and read or written by the other
 pub meets-in-column : (a b : Footprint) → Decides (meeting a b) ((c : ℕ) × (c < columns) × Meets-in a b c)

@@ -35,10 +35,14 @@ inside fs i j h =
     let q = and-parts (ltb i (length fs)) (ltb j (length fs)) (p .0) in
     (ltb-true i (length fs) (q .0), ltb-true j (length fs) (q .1))
 
-pub column-lawful : (s : ColumnSheet) → Lawful (column-graph (footprints s))
-column-lawful s = record {
-  few = let n : length (footprints s) ≤ limit = omega (arith, length-take (s .count) (s .table), s .few) in n;
-  irreflexive = irreflexive (footprints s);
-  symmetric = symmetric (footprints s);
-  inside = inside (footprints s);
+-- any list of at most so many footprints
+pub footprints-lawful : (fs : List Footprint) → length fs ≤ limit → Lawful (column-graph fs)
+footprints-lawful fs few = record {
+  few = few;
+  irreflexive = irreflexive fs;
+  symmetric = symmetric fs;
+  inside = inside fs;
 }
+
+pub column-lawful : (s : ColumnSheet) → Lawful (column-graph (footprints s))
+column-lawful s = footprints-lawful (footprints s) (omega (arith, length-take (s .count) (s .table), s .few))

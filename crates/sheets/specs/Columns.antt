@@ -33,14 +33,14 @@ column-graph fs = record { steps = length fs; clashes = column-clash fs }
 abbrev pub add-refusal : List Footprint → ℕ
 add-refusal fs = cond (ltb (length fs) limit) 0 7
 
--- the footprints after a step was to be added
-abbrev pub after-add : List Footprint → List Footprint
-after-add fs = cond (ltb (length fs) limit) (fs ++ (blank ∷ [])) fs
+-- the footprints with one step more, which touches nothing yet
+abbrev pub one-more : List Footprint → List Footprint
+one-more fs = fs ++ (blank ∷ [])
 
 -- a column is refused before any step, and above the last column
 abbrev pub note-refusal : List Footprint → ℕ → ℕ
 note-refusal fs c = cond (eqb (length fs) 0) 5 (column-refusal c)
 
--- the footprints after the latest step's was to change by f
-abbrev pub after-note : (Footprint → Footprint) → List Footprint → List Footprint
-after-note f fs = cond (eqb (length fs) 0) fs (set fs (length fs - 1) (f (getD fs (length fs - 1) blank)))
+-- the footprints with the latest step's changed by f. change-latest (reading 1) (a ∷ b ∷ []) is a ∷ reading 1 b ∷ []
+abbrev pub change-latest : (Footprint → Footprint) → List Footprint → List Footprint
+change-latest f fs = set fs (length fs - 1) (f (getD fs (length fs - 1) blank))

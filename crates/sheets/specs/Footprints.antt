@@ -3,8 +3,8 @@ use mathlib.Core.Path.{_≡_}
 use mathlib.Core.Bool.{Bool, true, cond, _&&_, _||_}
 use mathlib.Core.Logic.{_⊎_}
 use Prim.Native.Nat.{ℕ}
-use lib.Dec.{eqb, ltb}
-use Rattle.bits.specs.Sets.{width, has, mask-of, any}
+use lib.Dec.{ltb}
+use Rattle.bits.specs.Sets.{has, inserted, any}
 use Rattle.sheets.specs.declared.footprints.Footprint.{Footprint}
 use Rattle.sheets.specs.Limits.{columns}
 
@@ -12,29 +12,17 @@ use Rattle.sheets.specs.Limits.{columns}
 abbrev pub blank : Footprint
 blank = record { reads = 0; writes = 0 }
 
--- the set m with c in it too
-abbrev pub adding : ℕ → ℕ → ℕ
-adding c m = mask-of width (λ q. has m q || eqb q c)
-
 -- the footprint f, which reads column c too
 abbrev pub reading : ℕ → Footprint → Footprint
-reading c f = record { reads = adding c (f .reads); writes = f .writes }
+reading c f = record { reads = inserted (f .reads) c; writes = f .writes }
 
 -- the footprint f, which writes column c too
 abbrev pub writing : ℕ → Footprint → Footprint
-writing c f = record { reads = f .reads; writes = adding c (f .writes) }
+writing c f = record { reads = f .reads; writes = inserted (f .writes) c }
 
--- a column above the last is refused
+-- a column above the last is refused: column-refusal 32 is 8
 abbrev pub column-refusal : ℕ → ℕ
 column-refusal c = cond (ltb c columns) 0 8
-
--- the footprint after a column was to be read
-abbrev pub after-read : ℕ → Footprint → Footprint
-after-read c f = cond (ltb c columns) (reading c f) f
-
--- the footprint after a column was to be written
-abbrev pub after-write : ℕ → Footprint → Footprint
-after-write c f = cond (ltb c columns) (writing c f) f
 
 -- whether f writes column c
 abbrev pub writes-in : Footprint → ℕ → Bool

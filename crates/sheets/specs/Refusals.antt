@@ -1,5 +1,8 @@
 -- The numbers of the refusals.
+use mathlib.Core.Path.{_≡_}
+use mathlib.Core.Bool.{cond}
 use Prim.Native.Nat.{ℕ}
+use lib.Dec.{eqb}
 use Rattle.std.specs.declared.result.Result.{Result}
 use Rattle.std.specs.declared.result.Result.the-variants.{Ok, Err}
 use Rattle.sheets.specs.declared.refusals.Refusal.{Refusal}
@@ -30,3 +33,11 @@ number-of OpposedMarks = 18
 abbrev pub outcome : {A : Type 0} → Result A Refusal → ℕ
 outcome (Ok _) = 0
 outcome (Err e) = number-of e
+
+-- what is there after a call with the outcome k: what was meant where it was accepted, else what was there before
+abbrev pub settled : {A : Type 0} → ℕ → A → A → A
+settled k before meant = cond (eqb k 0) meant before
+
+-- a call with the outcome k that was refused left this part as it was
+abbrev pub Untouched : {A : Type 0} → ℕ → A → A → Type 0
+Untouched k before after = (k ≡ 0 → ⊥) → after ≡ before

@@ -3,9 +3,9 @@ ghost use mathlib.Core.Path.{_≡_};
 ghost use Prim.Native.Nat.{ℕ, _<_};
 ghost use Rattle.bits.specs.Sets.{mask-of};
 ghost use Rattle.std.specs.Orderings.{Decides};
-ghost use Rattle.sheets.specs.Footprints.{blank, meets-in, meeting, Meets-in, column-refusal, after-read, after-write};
+ghost use Rattle.sheets.specs.Footprints.{blank, meets-in, meeting, Meets-in, column-refusal, reading, writing};
 ghost use Rattle.sheets.specs.Limits.{columns};
-ghost use Rattle.sheets.specs.Refusals.{outcome};
+ghost use Rattle.sheets.specs.Refusals.{outcome, settled};
 use crate::limits::COLUMNS;
 use crate::refusals::Refusal;
 use bits::Mask;
@@ -33,7 +33,7 @@ impl Footprint {
     /// Adds a column that is read. Refused: 8 for a column above 31.
     pub fn read(&mut self, column: usize) -> Result<(), Refusal>
         ensures answer { λ r. ⌜ outcome r ≡ column-refusal column ⌝ }
-        ensures after { λ _. ⌜ now (self .exit) ≡ after-read column (now (self .entry)) ⌝ }
+        ensures after { λ _. ⌜ now (self .exit) ≡ settled (column-refusal column) (now (self .entry)) (reading column (now (self .entry))) ⌝ }
     {
         if column >= COLUMNS {
             return Err(Refusal::BadColumn);
@@ -45,7 +45,7 @@ impl Footprint {
     /// Adds a column that is written. Refused: 8 for a column above 31.
     pub fn write(&mut self, column: usize) -> Result<(), Refusal>
         ensures answer { λ r. ⌜ outcome r ≡ column-refusal column ⌝ }
-        ensures after { λ _. ⌜ now (self .exit) ≡ after-write column (now (self .entry)) ⌝ }
+        ensures after { λ _. ⌜ now (self .exit) ≡ settled (column-refusal column) (now (self .entry)) (writing column (now (self .entry))) ⌝ }
     {
         if column >= COLUMNS {
             return Err(Refusal::BadColumn);
@@ -55,7 +55,7 @@ impl Footprint {
     }
 
     /// The columns in which two footprints meet: one writes the column, and the other reads or writes it.
-    pub fn shared(&self, other: &Footprint) -> Mask
+    pub fn meeting_columns(&self, other: &Footprint) -> Mask
         ensures { λ r. ⌜ r ≡ mask-of columns (meets-in (now (self .entry)) (now (other .entry))) ⌝ }
     {
         let ours = bits::intersection(self.writes, bits::union(other.reads, other.writes));
@@ -68,6 +68,6 @@ impl Footprint {
         ensures answer { λ r. ⌜ r ≡ meeting (now (self .entry)) (now (other .entry)) ⌝ }
         ensures column { λ r. ⌜ Decides r ((c : ℕ) × (c < columns) × Meets-in (now (self .entry)) (now (other .entry)) c) ⌝ }
     {
-        self.shared(other) != 0
+        self.meeting_columns(other) != 0
     }
 }

@@ -3,5 +3,5 @@
 /// How many steps a sheet may have.
 pub const LIMIT: usize = 16;
 
-/// How many columns a step may read and write: they are numbered from 0.
-pub const COLUMNS: usize = 32;
+/// How many columns there are, numbered from 0: as many as a set of them has room for.
+pub const COLUMNS: usize = bits::WIDTH;

@@ -1,6 +1,11 @@
+-- The word `a & !b` is the difference.
 use native.Mathlib.Omega.{arith}
+use Rattle.bits.specs.Sets.{width}
+use Rattle.bits.proofs.Sets.{mask-members}
 use Rattle.bits.proofs.Words.{less-word}
 use Rattle.bits.proofs.difference.Needs as need
 
 pub returns : need.returns
-returns c = less-word 32 (c .args .a) (c .args .b) (omega arith) (omega arith)
+returns c =
+    let e = less-word width (c .args .a) (c .args .b) (omega arith) (omega arith) in
+    record { answer = e; members = mask-members width _ _ e }

@@ -1,3 +1,4 @@
+-- Equal masks have the same members, and no others.
 use mathlib.Core.Path.{ap}
 use Rattle.std.proofs.shelf.Tests.{eqb-true, eq-eqb}
 use Rattle.bits.specs.Sets.{has}

@@ -14,7 +14,7 @@ pub use answers::SheetOfColumns;
 /// A sheet with a footprint for each step: two steps clash where one writes a column that the other reads or writes.
 #[derive(Clone, Copy)]
 pub struct ColumnSheet {
-    // the footprints of the steps, and blank room for more
+    // the footprints of the steps, and room for more
     table: [Footprint; LIMIT],
     // how many steps there are
     count: usize,

@@ -1,7 +1,8 @@
 //! What a fence answers as a sheet.
 ghost use mathlib.Core.Path.{_≡_};
+ghost use Rattle.std.specs.Orderings.{Decides};
 ghost use Prim.Native.Nat.{_<_};
-ghost use Rattle.sheets.specs.Fences.{fenced, fence-graph};
+ghost use Rattle.sheets.specs.Fences.{fenced, graph-of, Clash-or-fenced};
 ghost use Rattle.sheets.specs.FenceLaws.{fence-lawful};
 ghost use Rattle.sheets.specs.Limits.{limit};
 use crate::fences::Fence;
@@ -24,7 +25,7 @@ fn in_table(pairs: &[Mask; LIMIT], i: usize, j: usize) -> bool
 }
 
 pub impl<S: Sheet> Sheet for Fence<S> as SheetOfFence {
-    ghost graph = { λ s. fence-graph (S·Sheet .graph (s .below)) (s .pairs) };
+    ghost graph = { graph-of (S·Sheet .graph) };
 
     ghost laws = { λ s. fence-lawful (S·Sheet .graph (s .below)) (s .pairs) (S·Sheet .laws (s .below)) };
 
@@ -32,7 +33,10 @@ pub impl<S: Sheet> Sheet for Fence<S> as SheetOfFence {
         self.below.count()
     }
 
-    fn clash(&self, i: usize, j: usize) -> bool {
+    fn clash(&self, i: usize, j: usize) -> bool
+        ensures answer { λ r. ⌜ r ≡ graph-of (S·Sheet .graph) (now (self .entry)) .clashes i j ⌝ }
+        ensures rule { λ r. ⌜ Decides r (Clash-or-fenced (S·Sheet .graph (now (self .entry) .below)) (now (self .entry) .pairs) i j) ⌝ }
+    {
         let n = self.below.count();
         if i >= n || j >= n {
             return false;

@@ -2,8 +2,8 @@
 ghost use mathlib.Core.Bool.{true, false};
 ghost use mathlib.Core.Path.{_≡_};
 ghost use Prim.Native.Nat.{ℕ};
-ghost use Rattle.sheets.specs.Fences.{fenced, fence-refusal, fence-clash, Gains};
-ghost use Rattle.sheets.specs.Refusals.{outcome};
+ghost use Rattle.sheets.specs.Fences.{pairs-of, graph-of, fence-refusal, Gains};
+ghost use Rattle.sheets.specs.Refusals.{outcome, Untouched};
 use crate::fences::Fence;
 use crate::interface::Sheet;
 use crate::limits::LIMIT;
@@ -13,8 +13,8 @@ impl<S: Sheet> Fence<S> {
     /// A fence without pairs.
     pub fn new(below: S) -> Fence<S>
         ensures sheet { λ r. ⌜ r .below ≡ below ⌝ }
-        ensures pairs { λ r. ⌜ ((p q : ℕ) → fenced (r .pairs) p q ≡ false) ⌝ }
-        ensures clashes { λ r. ⌜ ((p q : ℕ) → fence-clash (S·Sheet .graph below) (r .pairs) p q ≡ S·Sheet .graph below .clashes p q) ⌝ }
+        ensures pairs { λ r. ⌜ ((p q : ℕ) → pairs-of r p q ≡ false) ⌝ }
+        ensures clashes { λ r. ⌜ ((p q : ℕ) → graph-of (S·Sheet .graph) r .clashes p q ≡ S·Sheet .graph below .clashes p q) ⌝ }
     {
         Fence {
             below,
@@ -26,9 +26,10 @@ impl<S: Sheet> Fence<S> {
     pub fn fence(&mut self, i: usize, j: usize) -> Result<(), Refusal>
         ensures answer { λ r. ⌜ outcome r ≡ fence-refusal (S·Sheet .graph (now (self .entry) .below) .steps) i j ⌝ }
         ensures sheet { λ _. ⌜ now (self .exit) .below ≡ now (self .entry) .below ⌝ }
-        ensures pairs { λ r. ⌜ Gains (outcome r) i j (fenced (now (self .entry) .pairs)) (fenced (now (self .exit) .pairs)) ⌝ }
-        ensures clashes { λ r. ⌜ Gains (outcome r) i j (fence-clash (S·Sheet .graph (now (self .entry) .below)) (now (self .entry) .pairs)) (fence-clash (S·Sheet .graph (now (self .exit) .below)) (now (self .exit) .pairs)) ⌝ }
-        ensures again { λ _. ⌜ (fenced (now (self .entry) .pairs) i j ≡ true → (p q : ℕ) → fenced (now (self .exit) .pairs) p q ≡ fenced (now (self .entry) .pairs) p q) ⌝ }
+        ensures pairs { λ r. ⌜ Gains (outcome r) i j (pairs-of (now (self .entry))) (pairs-of (now (self .exit))) ⌝ }
+        ensures clashes { λ r. ⌜ Gains (outcome r) i j (graph-of (S·Sheet .graph) (now (self .entry)) .clashes) (graph-of (S·Sheet .graph) (now (self .exit)) .clashes) ⌝ }
+        ensures again { λ _. ⌜ (pairs-of (now (self .entry)) i j ≡ true → (p q : ℕ) → pairs-of (now (self .exit)) p q ≡ pairs-of (now (self .entry)) p q) ⌝ }
+        ensures same { λ r. ⌜ Untouched (outcome r) (now (self .entry)) (now (self .exit)) ⌝ }
     {
         if i == j {
             return Err(Refusal::SelfFence);

@@ -1,4 +1,5 @@
-use mathlib.Core.Path.{_∙_, ap}
+-- The step is put at the end of the footprints.
+use mathlib.Core.Path.{_∙_, ap, refl}
 use Prim.Native.Nat.{_+_}
 use native.Mathlib.Omega.{arith}
 use lib.ListN.{take, set}
@@ -13,4 +14,5 @@ returns c =
       after =
           ap (λ f. take (s .count + 1) (set (s .table) (s .count) f)) (c .blank .ensures)
           ∙ added (s .table) (s .count) (omega arith) (omega arith) (omega arith);
+      same = λ refused. absurd (refused refl);
     }

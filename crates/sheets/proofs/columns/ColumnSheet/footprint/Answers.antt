@@ -1,3 +1,4 @@
+-- The table holds the footprints up to the count.
 use native.Mathlib.Omega.{arith}
 use Rattle.sheets.proofs.ColumnCalls.{footprint-at, footprint-past}
 use Rattle.sheets.proofs.columns.ColumnSheet.footprint.Needs as need

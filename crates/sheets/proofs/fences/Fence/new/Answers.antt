@@ -1,3 +1,4 @@
+-- An empty table has no pair, so nothing but the sheet below clashes.
 use mathlib.Core.Path.{refl}
 use lib.ListN.{replicate}
 use Rattle.sheets.specs.Limits.{limit}

@@ -1,3 +1,4 @@
+-- They meet where that set is not empty.
 use mathlib.Core.Path.{_∙_, ap}
 use mathlib.Core.Bool.{not}
 use lib.Dec.{eqb}
@@ -12,5 +13,5 @@ pub returns : need.returns
 returns c =
     let a = c .args .self .now in
     let b = c .args .other .now in
-    let e = ap (λ m. not (eqb m 0)) (c .shared .ensures) ∙ any-mask columns (meets-in a b) in
+    let e = ap (λ m. not (eqb m 0)) (c .meeting-columns .ensures) ∙ any-mask columns (meets-in a b) in
     record { answer = e; column = decides-at _ _ e (meets-in-column a b) }

@@ -1,10 +1,11 @@
+-- Outside the sheet nothing clashes; inside, two steps clash where their footprints meet.
 use mathlib.Core.Path.{_≡_, _∙_}
 use mathlib.Core.Bool.{false}
 use native.Mathlib.Omega.{arith}
 use borrow.Author.Needs.{needs}
 use Rattle.std.proofs.shelf.Ways.{decides-at}
 use Rattle.sheets.specs.Columns.{footprints, column-clash}
-use Rattle.sheets.proofs.ColumnCalls.{clash-inside, clash-in-column}
+use Rattle.sheets.proofs.ColumnCalls.{table-clash, clash-in-column}
 use Rattle.sheets.proofs.columns.answers.SheetOfColumns.clash.Needs as need
 
 pub returns-then-i-self : need.returns-then-i-self
@@ -18,5 +19,5 @@ returns c =
     let s = c .args .self .now in
     let e =
     c .meets .ensures .answer
-    ∙ clash-inside (s .table) (s .count) (omega arith) (omega arith) (c .args .i) (c .args .j) (omega arith) (omega arith) (c .if-i-j .left) in
+    ∙ table-clash (s .table) (s .count) (omega arith) (omega arith) (c .args .i) (c .args .j) (omega arith) (omega arith) (c .if-i-j .left) in
     record { answer = e; column = decides-at _ _ e (clash-in-column (footprints s) (c .args .i) (c .args .j)) }
