@@ -5,13 +5,13 @@ use native.Mathlib.Nat.{pow-suc, div-one, div-div-eq-div-mul, mul-comm, not-suc-
 use native.Mathlib.Omega.{arith}
 use mathlib.Core.Path.{_≡_, refl, sym, ap, ap₂, _∙_}
 use mathlib.Core.Bool.{Bool, true, false, cond, not, _||_}
-use mathlib.Core.Logic.{inl, inr}
+use mathlib.Core.Logic.{_⊎_, inl, inr}
 use lib.Dec.{eqb}
-use Rattle.std.proofs.shelf.Tests.{true≢false, false≢true, both-ways, not-true, not-from-false, eqb-true, eqb-false, cases-bool, or-cases, or-left, or-right, cases-lt, cases-eq, ne-eqb, eq-eqb}
+use Rattle.std.proofs.shelf.Tests.{true≢false, false≢true, both-ways, not-true, not-from-false, eqb-true, eqb-false, cases-bool, or-cases, or-left, or-right, or-from, cases-lt, cases-eq, ne-eqb, eq-eqb}
 use Rattle.std.specs.declared.option.Option.{Option}
 use Rattle.std.specs.declared.option.Option.the-variants.{Some, None}
-use Rattle.bits.specs.Sets.{has, mask-of, any, first, Lowest}
-use Rattle.bits.proofs.Tests.{same-tests}
+use Rattle.bits.specs.Sets.{width, has, mask-of, inserted, any, first, Lowest}
+use Rattle.bits.proofs.Tests.{same-tests, or-false}
 
 -- ---- a mask, bit by bit
 
@@ -99,6 +99,59 @@ mask-same i f g e =
     elim (cases-lt p i) [
       | inl l ↦ has-mask i f p l ∙ e p l ∙ sym (has-mask i g p l)
       | inr h ↦ has-past i f p h ∙ sym (has-past i g p h)
+    ])
+
+-- ---- a loop that collects a set, number by number
+
+-- where the next number passes, it is put in
+pub mask-more : (k : ℕ) (f : ℕ → Bool) → k < width → f k ≡ true → inserted (mask-of k f) k ≡ mask-of (suc k) f
+mask-more k f room e = mask-ext _ _ (λ q. at q (cases-lt q (suc k)))
+  where
+    at : (q : ℕ) → (q < suc k) ⊎ (suc k ≤ q) → has (inserted (mask-of k f) k) q ≡ has (mask-of (suc k) f) q
+    at q (inl h) =
+        has-mask width (λ q. has (mask-of k f) q || eqb q k) q (omega arith)
+        ∙ elim (cases-eq q k) [
+          | inl s ↦ or-right (has (mask-of k f) q) (eqb q k) (eq-eqb q k s) ∙ sym (rw s e)
+          | inr s ↦
+              ap (λ (b : Bool). has (mask-of k f) q || b) (ne-eqb q k s) ∙ or-false (has (mask-of k f) q)
+              ∙ has-mask k f q (omega arith)
+        ]
+        ∙ sym (has-mask (suc k) f q h)
+    at q (inr h) = past (cases-lt q width) ∙ sym (has-past (suc k) f q h)
+      where
+        past : (q < width) ⊎ (width ≤ q) → has (inserted (mask-of k f) k) q ≡ false
+        past (inl l) =
+            has-mask width (λ q. has (mask-of k f) q || eqb q k) q l
+            ∙ or-from _ _ (has-past k f q (omega arith)) (ne-eqb q k (omega arith))
+        past (inr g) = has-past width _ q g
+
+-- where it does not, the set stays
+pub mask-skip : (k : ℕ) (f : ℕ → Bool) → f k ≡ false → mask-of k f ≡ mask-of (suc k) f
+mask-skip k f e = mask-ext _ _ (λ q. at q (cases-lt q (suc k)))
+  where
+    at : (q : ℕ) → (q < suc k) ⊎ (suc k ≤ q) → has (mask-of k f) q ≡ has (mask-of (suc k) f) q
+    at q (inl h) =
+        elim (cases-eq q k) [
+          | inl s ↦ has-past k f q (omega arith) ∙ sym (rw s e)
+          | inr s ↦ has-mask k f q (omega arith)
+        ]
+        ∙ sym (has-mask (suc k) f q h)
+    at q (inr h) = has-past k f q (omega arith) ∙ sym (has-past (suc k) f q h)
+
+-- past the last number that passes, the bound makes no difference
+pub mask-wider : (n w : ℕ) (f : ℕ → Bool) → n ≤ w → ((p : ℕ) → f p ≡ true → p < n) → mask-of n f ≡ mask-of w f
+mask-wider n w f h b =
+    mask-ext _ _
+    (λ p.
+    elim (cases-lt p n) [
+      | inl l ↦ has-mask n f p l ∙ sym (has-mask w f p (omega arith))
+      | inr g ↦
+          has-past n f p g
+          ∙ elim (cases-lt p w) [
+            | inl l ↦
+                elim (cases-bool (f p)) [ inl e ↦ absurd (let z = b p e in omega arith) | inr e ↦ sym e ] ∙ sym (has-mask w f p l)
+            | inr g ↦ sym (has-past w f p g)
+          ]
     ])
 
 -- ---- some number below a bound passes

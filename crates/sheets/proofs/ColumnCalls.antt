@@ -3,7 +3,7 @@
 use mathlib.Core.Path.{_≡_, sym, ap, ap₂, _∙_}
 use mathlib.Core.Logic.{inl, inr}
 use mathlib.Core.Bool.{Bool, true, cond, not, _&&_}
-use mathlib.Core.List.{List}
+use mathlib.Core.List.{List, [], _∷_, _++_}
 use Prim.Native.Nat.{ℕ, _+_, _-_, _≤_, _<_}
 use native.Mathlib.Omega.{arith}
 use lib.Dec.{eqb, ltb}
@@ -19,7 +19,7 @@ use Rattle.sheets.specs.declared.footprints.Footprint.{Footprint}
 use Rattle.sheets.specs.Limits.{limit}
 use Rattle.sheets.specs.Refusals.{settled, Untouched}
 use Rattle.sheets.specs.Footprints.{blank, column-refusal, meeting}
-use Rattle.sheets.specs.Columns.{column-clash, Clash-in-column, add-refusal, one-more, note-refusal, change-latest}
+use Rattle.sheets.specs.Columns.{column-clash, Clash-in-column, add-refusal, after-add, note-refusal, change-latest, after-note}
 use Rattle.sheets.proofs.Meetings.{meets-in-column}
 
 -- two different steps clash exactly where their footprints meet
@@ -41,10 +41,10 @@ module _ (xs : List Footprint) (n : ℕ) (whole : length xs ≡ limit) (few : n 
   pub add-accepted : n < limit → 0 ≡ add-refusal (take n xs)
   add-accepted h = sym (cond-true _ 0 7 (lt-ltb (length (take n xs)) limit (omega (arith, counted))))
 
-  pub added : n < limit → take (n + 1) (set xs n blank) ≡ settled (add-refusal (take n xs)) (take n xs) (one-more (take n xs))
+  pub added : n < limit → take (n + 1) (set xs n blank) ≡ after-add (take n xs)
   added h =
       take-more-set xs n blank (omega arith)
-      ∙ ap (λ (k : ℕ). settled k (take n xs) (one-more (take n xs))) (add-accepted h)
+      ∙ ap (λ (k : ℕ). settled k (take n xs) (take n xs ++ (blank ∷ []))) (add-accepted h)
 
   -- after the first step the column decides
   pub note-column : (c : ℕ) → 0 < n → column-refusal c ≡ note-refusal (take n xs) c
@@ -53,7 +53,7 @@ module _ (xs : List Footprint) (n : ℕ) (whole : length xs ≡ limit) (few : n 
   -- the latest footprint in the table became y: f of it where the column was accepted, else itself
   pub noted : (f : Footprint → Footprint) (c : ℕ) (y : Footprint) → 0 < n
       → y ≡ settled (column-refusal c) (getD xs (n - 1) blank) (f (getD xs (n - 1) blank))
-      → take n (set xs (n - 1) y) ≡ settled (note-refusal (take n xs) c) (take n xs) (change-latest f (take n xs))
+      → take n (set xs (n - 1) y) ≡ after-note f c (take n xs)
   noted f c y p e =
       let x : Footprint = getD xs (n - 1) blank in
       let l : n - 1 < n = omega arith in

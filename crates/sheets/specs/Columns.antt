@@ -8,6 +8,7 @@ use lib.ListN.{length, getD, set, take}
 use Rattle.sheets.specs.declared.footprints.Footprint.{Footprint}
 use Rattle.sheets.specs.declared.columns.ColumnSheet.{ColumnSheet}
 use Rattle.sheets.specs.Limits.{limit, columns}
+use Rattle.sheets.specs.Refusals.{settled}
 use Rattle.sheets.specs.Graphs.{Graph}
 use Rattle.sheets.specs.Footprints.{blank, column-refusal, meeting, Meets-in}
 
@@ -33,9 +34,9 @@ column-graph fs = record { steps = length fs; clashes = column-clash fs }
 abbrev pub add-refusal : List Footprint → ℕ
 add-refusal fs = cond (ltb (length fs) limit) 0 7
 
--- the footprints with one step more, which touches nothing yet
-abbrev pub one-more : List Footprint → List Footprint
-one-more fs = fs ++ (blank ∷ [])
+-- the footprints after a step was to be added: one more, which touches nothing yet
+abbrev pub after-add : List Footprint → List Footprint
+after-add fs = settled (add-refusal fs) fs (fs ++ (blank ∷ []))
 
 -- a column is refused before any step, and above the last column
 abbrev pub note-refusal : List Footprint → ℕ → ℕ
@@ -44,3 +45,7 @@ note-refusal fs c = cond (eqb (length fs) 0) 5 (column-refusal c)
 -- the footprints with the latest step's changed by f. change-latest (reading 1) (a ∷ b ∷ []) is a ∷ reading 1 b ∷ []
 abbrev pub change-latest : (Footprint → Footprint) → List Footprint → List Footprint
 change-latest f fs = set fs (length fs - 1) (f (getD fs (length fs - 1) blank))
+
+-- the footprints after column c was to be noted for the latest step, by f
+abbrev pub after-note : (Footprint → Footprint) → ℕ → List Footprint → List Footprint
+after-note f c fs = settled (note-refusal fs c) fs (change-latest f fs)

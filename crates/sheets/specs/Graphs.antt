@@ -1,13 +1,19 @@
 -- Steps and their clashes: what every sheet means.
 use mathlib.Core.Path.{_≡_}
-use mathlib.Core.Bool.{Bool, true, false}
+use mathlib.Core.Bool.{Bool, true, false, _&&_}
 use Prim.Native.Nat.{ℕ, _<_, _≤_}
+use lib.Dec.{ltb}
+use Rattle.bits.specs.Sets.{width, mask-of}
 use Rattle.sheets.specs.Limits.{limit}
 
 -- a conflict graph: how many steps there are, numbered from 0, and which two clash
 pub record Graph : Type 0 where
   pub steps : ℕ
   pub clashes : ℕ → ℕ → Bool
+
+-- the neighbours of step i: the lower-numbered steps that clash with it
+abbrev pub neighbours-of : Graph → ℕ → ℕ
+neighbours-of g i = mask-of width (λ j. ltb j i && g .clashes i j)
 
 -- the laws of a sheet
 pub record Lawful (g : Graph) : Type 0 where

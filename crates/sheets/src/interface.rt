@@ -1,6 +1,7 @@
 //! What every sheet answers, whatever its rule of clashing.
 ghost use mathlib.Core.Path.{_≡_};
-ghost use Rattle.sheets.specs.Graphs.{Graph, Lawful};
+ghost use Rattle.sheets.specs.Graphs.{Graph, Lawful, neighbours-of};
+use bits::Mask;
 
 /// A sheet: steps numbered from 0, some of which clash, so that their order can matter.
 pub trait Sheet {
@@ -17,4 +18,17 @@ pub trait Sheet {
     /// Whether two steps clash; none does that is not below the count.
     fn clash(&self, i: usize, j: usize) -> bool
         ensures { λ r. ⌜ r ≡ graph (now (self .entry)) .clashes i j ⌝ };
+}
+
+/// The neighbours of a step: the lower-numbered steps that clash with it.
+pub fn neighbours<S: Sheet>(sheet: &S, step: usize) -> Mask
+    ensures { λ r. ⌜ r ≡ neighbours-of (S·Sheet .graph (now (sheet .entry))) step ⌝ }
+{
+    let mut found = 0;
+    for other in 0..sheet.count() {
+        if (other < step) & sheet.clash(step, other) {
+            found = bits::with(found, other);
+        }
+    }
+    found
 }

@@ -16,6 +16,7 @@ pub use footprints::Footprint;
 pub use footprints::FootprintDebug;
 pub use footprints::FootprintPartialEq;
 pub use interface::Sheet;
+pub use interface::neighbours;
 pub use limits::COLUMNS;
 pub use limits::LIMIT;
 pub use refusals::Refusal;

@@ -7,8 +7,10 @@ use crate::footprints::Footprint;
 use crate::footprints::FootprintDebug;
 use crate::footprints::FootprintPartialEq;
 use crate::interface::Sheet;
+use crate::interface::neighbours;
 use crate::limits::LIMIT;
 use crate::refusals::Refusal;
+use bits::Mask;
 use std::test::*;
 
 // What a call came to: 0 where it was accepted, else the number of its refusal.
@@ -17,6 +19,11 @@ fn outcome(answer: Result<(), Refusal>) -> u8 {
         Ok(()) => 0,
         Err(refusal) => refusal.number(),
     }
+}
+
+// A footprint by its two sets.
+fn touching(reads: Mask, writes: Mask) -> Footprint {
+    Footprint { reads, writes }
 }
 
 // How many pairs of steps clash, on any sheet.
@@ -52,13 +59,7 @@ fn steps_up_to_the_limit() -> Result<(), Fail> {
     check_eq(outcome(sheet.add_step()), 7)?;
     check_eq(sheet.count(), LIMIT)?;
     check_eq(outcome(sheet.write(3)), 0)?;
-    check_eq(
-        sheet.footprint(LIMIT - 1),
-        Some(Footprint {
-            reads: 0,
-            writes: 8,
-        }),
-    )?;
+    check_eq(sheet.footprint(LIMIT - 1), Some(touching(0, 1 << 3)))?;
     check_eq(sheet.footprint(LIMIT), None)
 }
 
@@ -76,13 +77,7 @@ fn columns_up_to_the_last() -> Result<(), Fail> {
     check_eq(outcome(sheet.read(31)), 0)?;
     check_eq(outcome(sheet.read(31)), 0)?;
     check_eq(outcome(sheet.write(0)), 0)?;
-    check_eq(
-        sheet.footprint(0),
-        Some(Footprint {
-            reads: 1 << 31,
-            writes: 1,
-        }),
-    )
+    check_eq(sheet.footprint(0), Some(touching(1 << 31, 1)))
 }
 
 #[test]
@@ -102,6 +97,9 @@ fn clashes_by_columns() -> Result<(), Fail> {
     check(!sheet.clash(1, 2)).note("two reads")?;
     check(!sheet.clash(0, 0)).note("a step with itself")?;
     check(!sheet.clash(0, 4) && !sheet.clash(usize::MAX, 0)).note("past the count")?;
+    check_eq(neighbours(&sheet, 3), 0b0111)?;
+    check_eq(neighbours(&sheet, 2), 0b0001)?;
+    check_eq(neighbours(&sheet, 4), 0).note("no step")?;
     check_eq(clashing_pairs(&sheet), 5)
 }
 
@@ -115,11 +113,13 @@ fn fences_over_fences() -> Result<(), Fail> {
     check_eq(outcome(low.fence(2, 0)), 0)?;
     check_eq(outcome(low.fence(0, 2)), 0).note("a pair fenced twice")?;
     check(low.clash(0, 2) && low.clash(2, 0))?;
+    check_eq(neighbours(&low, 2), 0b001)?;
     check_eq(clashing_pairs(&low), 1)?;
     let mut high = Fence::new(low);
     check_eq(outcome(high.fence(0, 1)), 0)?;
     check_eq(high.count(), 3)?;
     check(high.clash(0, 1) && high.clash(0, 2) && !high.clash(1, 2))?;
+    check_eq(neighbours(&high, 1), 0b001)?;
     check_eq(clashing_pairs(&high), 2)?;
     check_eq(clashing_pairs(high.below()), 1).note("the fence below has its own pair alone")?;
     check_eq(clashing_pairs(&high.into_below().into_below()), 0).note("the sheet below has none")

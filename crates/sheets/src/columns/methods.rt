@@ -2,9 +2,9 @@
 ghost use mathlib.Core.List.{[]};
 ghost use mathlib.Core.Path.{_≡_};
 ghost use Rattle.std.specs.shelf.Maps.{nth};
-ghost use Rattle.sheets.specs.Columns.{footprints, add-refusal, one-more, note-refusal, change-latest};
+ghost use Rattle.sheets.specs.Columns.{footprints, add-refusal, after-add, note-refusal, after-note};
 ghost use Rattle.sheets.specs.Footprints.{reading, writing};
-ghost use Rattle.sheets.specs.Refusals.{outcome, settled, Untouched};
+ghost use Rattle.sheets.specs.Refusals.{outcome, Untouched};
 use crate::columns::ColumnSheet;
 use crate::footprints::Footprint;
 use crate::limits::LIMIT;
@@ -24,7 +24,7 @@ impl ColumnSheet {
     /// Adds a step that touches nothing yet. Refused: 7 where the limit is reached.
     pub fn add_step(&mut self) -> Result<(), Refusal>
         ensures answer { λ r. ⌜ outcome r ≡ add-refusal (footprints (now (self .entry))) ⌝ }
-        ensures after { λ _. ⌜ footprints (now (self .exit)) ≡ settled (add-refusal (footprints (now (self .entry)))) (footprints (now (self .entry))) (one-more (footprints (now (self .entry)))) ⌝ }
+        ensures after { λ _. ⌜ footprints (now (self .exit)) ≡ after-add (footprints (now (self .entry))) ⌝ }
         ensures same { λ r. ⌜ Untouched (outcome r) (now (self .entry)) (now (self .exit)) ⌝ }
     {
         if self.count >= LIMIT {
@@ -38,7 +38,7 @@ impl ColumnSheet {
     /// Lets the latest step read a column too. Refused: 5 before any step, then 8 for a column above 31.
     pub fn read(&mut self, column: usize) -> Result<(), Refusal>
         ensures answer { λ r. ⌜ outcome r ≡ note-refusal (footprints (now (self .entry))) column ⌝ }
-        ensures after { λ _. ⌜ footprints (now (self .exit)) ≡ settled (note-refusal (footprints (now (self .entry))) column) (footprints (now (self .entry))) (change-latest (reading column) (footprints (now (self .entry)))) ⌝ }
+        ensures after { λ _. ⌜ footprints (now (self .exit)) ≡ after-note (reading column) column (footprints (now (self .entry))) ⌝ }
         ensures same { λ r. ⌜ Untouched (outcome r) (now (self .entry) .table) (now (self .exit) .table) × Untouched (outcome r) (now (self .entry) .count) (now (self .exit) .count) ⌝ }
     {
         if self.count == 0 {
@@ -51,7 +51,7 @@ impl ColumnSheet {
     /// Lets the latest step write a column too. Refused: 5 before any step, then 8 for a column above 31.
     pub fn write(&mut self, column: usize) -> Result<(), Refusal>
         ensures answer { λ r. ⌜ outcome r ≡ note-refusal (footprints (now (self .entry))) column ⌝ }
-        ensures after { λ _. ⌜ footprints (now (self .exit)) ≡ settled (note-refusal (footprints (now (self .entry))) column) (footprints (now (self .entry))) (change-latest (writing column) (footprints (now (self .entry)))) ⌝ }
+        ensures after { λ _. ⌜ footprints (now (self .exit)) ≡ after-note (writing column) column (footprints (now (self .entry))) ⌝ }
         ensures same { λ r. ⌜ Untouched (outcome r) (now (self .entry) .table) (now (self .exit) .table) × Untouched (outcome r) (now (self .entry) .count) (now (self .exit) .count) ⌝ }
     {
         if self.count == 0 {
