@@ -1,4 +1,7 @@
 //! What the program says.
+use crate::reasons::Reason;
+use crate::reasons::meeting_columns;
+use crate::reasons::why;
 use crate::story;
 use bits::Mask;
 use sheets::COLUMNS;
@@ -14,19 +17,23 @@ use std::alloc::AllocError;
 use std::alloc::Global;
 use std::io;
 
-// What the runbook is about.
+// What happened, and what the runbook is about.
 pub fn opening(rt: &LibcRuntime) -> io::Result<()> {
     println!(
         rt,
-        "Two clerks copied product names from ledger cards, and tabs that they typed"
+        "Two clerks copied product names from ledger cards, and tabs that they typed still"
     )?;
     println!(
         rt,
-        "still stand in the names, escaped by a backslash. A name that is joined to the"
+        "stand in the names, escaped by a backslash. One customer ran suppliers, join, count"
     )?;
     println!(
         rt,
-        "suppliers before it is unescaped matches none, and its product is dropped."
+        "and only then unescape: the escaped names matched no supplier, the join dropped those"
+    )?;
+    println!(
+        rt,
+        "products without a word, and the buyers' report went out without them."
     )
 }
 
@@ -62,64 +69,67 @@ fn column_names(heap: Global, columns: Mask) -> Result<String, AllocError> {
     Ok(text)
 }
 
-// Each pair of steps, on any sheet over the runbook: whether it clashes, and by which rule.
-pub fn clashes<S: Sheet>(rt: &LibcRuntime, runbook: &ColumnSheet, sheet: &S) -> io::Result<()> {
+// Each pair of steps on a sheet over the runbook: whether it clashes, and by which rule.
+pub fn clashes<S: Sheet>(
+    rt: &LibcRuntime,
+    whose: &str,
+    runbook: &ColumnSheet,
+    sheet: &S,
+) -> io::Result<()> {
     println!(
         rt,
-        "\nPairs of steps; the order of two that clash can matter:"
+        "\nPairs of steps {whose}; the order of two that clash can matter:"
     )?;
-    let mut clashing: usize = 0;
     let mut pairs: usize = 0;
+    let mut free: usize = 0;
     for i in 0..sheet.count() {
         for j in i + 1..sheet.count() {
-            tell_pair(rt, runbook, i, j, sheet.clash(i, j))?;
             pairs = pairs.saturating_add(1);
-            if sheet.clash(i, j) {
-                clashing = clashing.saturating_add(1);
+            let reason = why(runbook, sheet, i, j);
+            if let Reason::Free = reason {
+                free = free.saturating_add(1);
             }
+            tell_pair(rt, runbook, i, j, reason)?;
         }
     }
+    let clashing = pairs.saturating_sub(free);
     println!(rt, "  {clashing} of {pairs} clash")
 }
 
-// One pair: by footprint where the runbook's columns show the clash, else by a fence.
+// One pair with its reason, and the columns where these are the reason.
 fn tell_pair(
     rt: &LibcRuntime,
     runbook: &ColumnSheet,
     i: usize,
     j: usize,
-    clash: bool,
+    reason: Reason,
 ) -> io::Result<()> {
     let first = story::step_name(i);
     let second = story::step_name(j);
-    if !clash {
-        return println!(rt, "  {i} {first}, {j} {second}: free");
-    }
-    match (runbook.footprint(i), runbook.footprint(j)) {
-        (Some(one), Some(other)) if one.meets(&other) => {
-            let columns = column_names(rt.alloc(), one.meeting_columns(&other))?;
-            println!(
-                rt,
-                "  {i} {first}, {j} {second}: clash by footprint, in {columns}"
-            )
+    print!(rt, "  {i} {first}, {j} {second}: ")?;
+    match reason {
+        Reason::Free => println!(rt, "free"),
+        Reason::Fence => println!(rt, "clash by fence"),
+        Reason::Columns => {
+            let columns = column_names(rt.alloc(), meeting_columns(runbook, i, j))?;
+            println!(rt, "clash by footprint, in {columns}")
         }
-        _ => println!(rt, "  {i} {first}, {j} {second}: clash by fence"),
     }
 }
 
 // Fences a pair, and says so.
 pub fn fence<S: Sheet>(
     rt: &LibcRuntime,
-    sheet: &mut Fence<S>,
+    fence: &mut Fence<S>,
     i: usize,
     j: usize,
 ) -> io::Result<()> {
     let first = story::step_name(i);
     let second = story::step_name(j);
-    match sheet.fence(i, j) {
+    match fence.fence(i, j) {
         Ok(()) => println!(
             rt,
-            "\nA fence, put over it, lets {first} and {second} clash too."
+            "\nA fence put over it lets {first} and {second} clash too."
         ),
         Err(refusal) => {
             let number = refusal.number();
@@ -152,7 +162,9 @@ pub fn refusals(rt: &LibcRuntime, runbook: &ColumnSheet) -> io::Result<()> {
         "fence join from itself",
         fenced.fence(story::JOIN, story::JOIN),
     )?;
-    tried(rt, "fence join from step 4", fenced.fence(story::JOIN, 4))
+    let no_step = runbook.count();
+    let past_count = format!(rt.alloc(), "fence join from step {no_step}")?;
+    tried(rt, past_count.as_str(), fenced.fence(story::JOIN, no_step))
 }
 
 // One call with its answer.
