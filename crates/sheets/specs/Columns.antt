@@ -16,7 +16,8 @@ use Rattle.sheets.specs.Footprints.{blank, column-refusal, meeting, Meets-in}
 abbrev pub footprints : ColumnSheet → List Footprint
 footprints s = take (s .count) (s .table)
 
--- two different steps clash when one writes a column that the other reads or writes
+-- two different steps clash when one writes a column that the other reads or writes. In writing 7 blank ∷ reading 7 blank ∷ [] the
+-- steps 0 and 1 do
 abbrev pub column-clash : List Footprint → ℕ → ℕ → Bool
 column-clash fs i j = (ltb i (length fs) && ltb j (length fs)) && (not (eqb i j) && meeting (getD fs i blank) (getD fs j blank))
 
@@ -30,7 +31,7 @@ Clash-in-column fs i j =
 abbrev pub column-graph : List Footprint → Graph
 column-graph fs = record { steps = length fs; clashes = column-clash fs }
 
--- a step is refused where the limit is reached
+-- a step is refused where the limit is reached: the 17th is
 abbrev pub add-refusal : List Footprint → ℕ
 add-refusal fs = cond (ltb (length fs) limit) 0 7
 
@@ -46,6 +47,7 @@ note-refusal fs c = cond (eqb (length fs) 0) 5 (column-refusal c)
 abbrev pub change-latest : (Footprint → Footprint) → List Footprint → List Footprint
 change-latest f fs = set fs (length fs - 1) (f (getD fs (length fs - 1) blank))
 
--- the footprints after column c was to be noted for the latest step, by f
+-- the footprints after column c was to be noted for the latest step, by f. after-note (reading 1) 1 [] is [], since there is no
+-- step, and after-note (reading 32) 32 fs is fs, since there is no such column
 abbrev pub after-note : (Footprint → Footprint) → ℕ → List Footprint → List Footprint
 after-note f c fs = settled (note-refusal fs c) fs (change-latest f fs)

@@ -19,7 +19,7 @@ fenced pairs p q = not (eqb p q) && has (getD pairs (max p q) 0) (min p q)
 abbrev pub is-pair : ℕ → ℕ → ℕ → ℕ → Bool
 is-pair i j p q = (eqb p i && eqb q j) || (eqb p j && eqb q i)
 
--- a step with itself is refused, then a step that is not below the count n
+-- a step with itself is refused, then a step that is not below the count n. fence-refusal 3 5 5 is 9, fence-refusal 3 0 3 is 10
 abbrev pub fence-refusal : ℕ → ℕ → ℕ → ℕ
 fence-refusal n i j = cond (eqb i j) 9 (cond (ltb i n && ltb j n) 0 10)
 
@@ -43,6 +43,7 @@ pairs-of s = fenced (s .pairs)
 abbrev pub graph-of : {S : Type 0} → (S → Graph) → Fence S → Graph
 graph-of meaning s = fence-graph (meaning (s .below)) (s .pairs)
 
--- what a call of fence with the outcome k makes of a relation: as before, and the pair of i and j too where it was accepted
+-- what a call of fence with the outcome k makes of a relation: as before, and the pair of i and j too where it was accepted.
+-- Gains 0 0 2 none r says that r holds of 0 and 2, of 2 and 0, and of nothing else
 abbrev pub Gains : ℕ → ℕ → ℕ → (ℕ → ℕ → Bool) → (ℕ → ℕ → Bool) → Type 0
 Gains k i j before after = (p q : ℕ) → after p q ≡ (before p q || (eqb k 0 && is-pair i j p q))

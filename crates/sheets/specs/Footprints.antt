@@ -32,7 +32,8 @@ writes-in f c = has (f .writes) c
 abbrev pub touches : Footprint → ℕ → Bool
 touches f c = has (f .reads) c || has (f .writes) c
 
--- whether a and b meet in column c: one writes it, and the other reads or writes it
+-- whether a and b meet in column c: one writes it, and the other reads or writes it. writing 7 blank and reading 7 blank meet in 7;
+-- two that only read 7 do not
 abbrev pub meets-in : Footprint → Footprint → ℕ → Bool
 meets-in a b c = (writes-in a c && touches b c) || (writes-in b c && touches a c)
 

@@ -11,7 +11,8 @@ pub record Graph : Type 0 where
   pub steps : ℕ
   pub clashes : ℕ → ℕ → Bool
 
--- the neighbours of step i: the lower-numbered steps that clash with it
+-- the neighbours of step i: the lower-numbered steps that clash with it. Where 0 and 1 both clash with 2 and 3, those of 3 are 3,
+-- the set of 0 and 1
 abbrev pub neighbours-of : Graph → ℕ → ℕ
 neighbours-of g i = mask-of width (λ j. ltb j i && g .clashes i j)
 
