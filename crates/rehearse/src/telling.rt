@@ -7,7 +7,6 @@ use bits::Mask;
 use sheets::COLUMNS;
 use sheets::ColumnSheet;
 use sheets::Fence;
-use sheets::Footprint;
 use sheets::LIMIT;
 use sheets::Refusal;
 use sheets::Sheet;

@@ -26,6 +26,7 @@ pub fn neighbours<S: Sheet>(sheet: &S, step: usize) -> Mask
 {
     let mut found = 0;
     for other in 0..sheet.count() {
+        // `&` makes one test of the two, so that the loop has one way in its proof
         if (other < step) & sheet.clash(step, other) {
             found = bits::with(found, other);
         }
