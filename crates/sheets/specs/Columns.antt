@@ -31,7 +31,7 @@ Clash-in-column fs i j =
 abbrev pub column-graph : List Footprint → Graph
 column-graph fs = record { steps = length fs; clashes = column-clash fs }
 
--- a step is refused where the limit is reached: the 17th is
+-- a step is refused where the limit is reached
 abbrev pub add-refusal : List Footprint → ℕ
 add-refusal fs = cond (ltb (length fs) limit) 0 7
 
