@@ -1,4 +1,6 @@
 //! Sets of small numbers, as masks: steps of a sheet, columns of a table.
+#![tactic(auto)]
+
 ghost use Rattle.std.specs.Prelude.{◌≡◌, ℕ, not, ◌&&◌, ◌||◌, Decides, ◌==◌, nat_lt};
 ghost use Rattle.bits.specs.Sets.{width, has, mask_of, inserted, Members, first, Lowest};
 

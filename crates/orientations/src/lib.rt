@@ -1,5 +1,7 @@
 //! Orientations of a conflict graph: what they are, which is lower, and that going from successor to successor loses none.
 //! The definitions are in `specs/`. Each function here carries theorems about them in its contract, and does nothing else.
+#![tactic(auto)]
+
 ghost use Rattle.orientations.specs.Theorems.{RowsCorrespond, AncestorsTell, LegalAdds, W_lists, RowsOrdered, RowsRise, RowsEnd, LowerOrders, LowerReads, EndsStand, SuccessorsStand, AllListed, NoneLost, UpcomingStand, ListsAlike, OrdersFollow, OrdersOriented};
 ghost use Rattle.orientations.specs.Worked.{WorkedOrders};
 

@@ -1,4 +1,6 @@
 //! The story of the escaped tabs: a small runbook, told from its steps on.
+#![tactic(auto)]
+
 mod reasons;
 mod story;
 mod telling;

@@ -1,4 +1,6 @@
 //! An orientation held as rows, one for each step, and the small functions on rows from which a walk is made.
+#![tactic(auto)]
+
 mod graph;
 mod levels;
 mod orders;

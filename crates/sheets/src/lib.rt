@@ -1,4 +1,6 @@
 //! Sheets: how many steps a runbook has and which of them clash, whatever the rule of clashing.
+#![tactic(auto)]
+
 mod columns;
 mod fences;
 mod footprints;

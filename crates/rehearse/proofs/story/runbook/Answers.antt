@@ -18,15 +18,15 @@ returns c =
     let j : Footprint = writing 2 (reading 1 (reading 0 blank)) in
     let a : footprints c.write.new.self ≡ u ∷ [] =
     c.write.ensures.after
-    ∙ ap (after_note (writing 0) 0) (c.read.ensures.after ∙ ap (after_note (reading 0) 0) (c.add-step.ensures.after ∙ ap after_add c.new-sheet.ensures)) in
+    ∙ ap (after_note (writing 0) 0) (c.read.ensures.after ∙ ap (after_note (reading 0) 0) (c.add_step.ensures.after ∙ ap after_add c.new-sheet.ensures)) in
     let b : footprints c.write-2.new.self ≡ u ∷ s ∷ [] =
-    c.write-2.ensures.after ∙ ap (after_note (writing 1) 1) (c.add-step-2.ensures.after ∙ ap after_add a) in
+    c.write-2.ensures.after ∙ ap (after_note (writing 1) 1) (c.add_step-2.ensures.after ∙ ap after_add a) in
     let d : footprints c.read-3.new.self ≡ u ∷ s ∷ reading 1 (reading 0 blank) ∷ [] =
     c.read-3.ensures.after
-    ∙ ap (after_note (reading 1) 1) (c.read-2.ensures.after ∙ ap (after_note (reading 0) 0) (c.add-step-3.ensures.after ∙ ap after_add b)) in
+    ∙ ap (after_note (reading 1) 1) (c.read-2.ensures.after ∙ ap (after_note (reading 0) 0) (c.add_step-3.ensures.after ∙ ap after_add b)) in
     let e : footprints c.write-3.new.self ≡ u ∷ s ∷ j ∷ [] = c.write-3.ensures.after ∙ ap (after_note (writing 2) 2) d in
     let f : footprints c.read-5.new.self ≡ u ∷ s ∷ j ∷ reading 1 (reading 0 blank) ∷ [] =
     c.read-5.ensures.after
-    ∙ ap (after_note (reading 1) 1) (c.read-4.ensures.after ∙ ap (after_note (reading 0) 0) (c.add-step-4.ensures.after ∙ ap after_add e)) in
+    ∙ ap (after_note (reading 1) 1) (c.read-4.ensures.after ∙ ap (after_note (reading 0) 0) (c.add_step-4.ensures.after ∙ ap after_add e)) in
     let all : footprints c.write-4.new.self ≡ story = c.write-4.ensures.after ∙ ap (after_note (writing 3) 3) f in
     record { steps = all; clashes = ap (λ fs. clashing_pairs (column_graph fs)) all ∙ story_clashes }

@@ -20,9 +20,9 @@ pub loop-step-preserved : goal.loop-step-preserved
 unfolding ancestor
 loop-step-preserved c =
     let g = graph_of c.args.conflicts.now in (
-      c.add-ancestors.array_long,
-      step_more g grown (ancestor g) (λ a o q p. refl) grown_idle c.args.rows.now c.loop-step.relation c.add-ancestors.new.relation
-          c.loop-step.step c.loop-step.invariant.1 c.add-ancestors.ensures,
+      c.add_ancestors.array_long,
+      step_more g grown (ancestor g) (λ a o q p. refl) grown_idle c.args.rows.now c.loop-step.relation c.add_ancestors.new.relation
+          c.loop-step.step c.loop-step.invariant.1 c.add_ancestors.ensures,
     )
 
 pub returns : goal.returns

@@ -18,9 +18,9 @@ pub loop-step-preserved : goal.loop-step-preserved
 unfolding arrow
 loop-step-preserved c =
     let g = graph_of c.args.conflicts.now in (
-      c.add-arrows.array_long,
-      step_more g pointed (arrow g) (λ a o q p. refl) pointed_idle c.args.rows.now c.loop-step.relation c.add-arrows.new.relation
-          c.loop-step.step c.loop-step.invariant.1 c.add-arrows.ensures,
+      c.add_arrows.array_long,
+      step_more g pointed (arrow g) (λ a o q p. refl) pointed_idle c.args.rows.now c.loop-step.relation c.add_arrows.new.relation
+          c.loop-step.step c.loop-step.invariant.1 c.add_arrows.ensures,
     )
 
 pub returns : goal.returns

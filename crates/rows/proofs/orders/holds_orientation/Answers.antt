@@ -57,5 +57,5 @@ returns c =
     let g = graph_of conflicts in
     let rows = c.args.rows.now in
     let within = within_from g rows conflicts.count (λ k l. c.loop-step.invariant k (omega arith)) in
-    let acyclic = c.is-acyclic.ensures in
+    let acyclic = c.is_acyclic.ensures in
     (λ e. record { full = length_rows rows conflicts.count; sound = (within, acyclic.0 e) }, λ holds. acyclic.1 holds.sound.1)
