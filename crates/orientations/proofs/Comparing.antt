@@ -1,8 +1,8 @@
 -- The order of orientations: strict and total; the successor is the next in it.
 -- Assumes nothing.
 use Rattle.std.proofs.Common.{◌≡◌, ℕ, zero, suc, ◌⊎◌, List, [], ◌∷◌, length, Some, None, Option, refl, ap, ◌∙◌, subst, ap₂, inl, inr, arith}
-use Rattle.sheets.specs.Graphs.{Graph, neighbours_of}
-use Rattle.orientations.specs.Rows.{assignment, AllWithin, Sound, Legal}
+use Rattle.sheets.specs.Graphs.{Graph}
+use Rattle.orientations.specs.Rows.{assignment, AllWithin, Sound, Legal, lower_neighbours}
 use Rattle.orientations.specs.Assignments.{W, LowerRow, next_row}
 use Rattle.orientations.specs.Successors.{lowest, highest, Lower, successor}
 use Rattle.orientations.specs.Theorems.{LegalAdds, NextRow}
@@ -142,14 +142,14 @@ module _ (g : Graph) where
   unfolding highest AllWithin
   highest_sound zero = (tt, λ p c. no_chain g c)
   highest_sound (suc n) =
-      whole (neighbours_of g n) (highest g n) (highest_sound n)
-      (subst (λ (k : ℕ). Legal g (highest g n) (neighbours_of g k)) (highest_length n) (ones_legal g (highest g n)))
+      whole (lower_neighbours g n) (highest g n) (highest_sound n)
+      (subst (λ (k : ℕ). Legal g (highest g n) (lower_neighbours g k)) (highest_length n) (ones_legal g (highest g n)))
 
   -- all ones has no next row
-  ones_none : (o : List ℕ) → Sound g o → next_row g o (neighbours_of g (length o)) ≡ None
-  ones_none o s = go (next_row g o (neighbours_of g (length o))) (rows_rise g o s (neighbours_of g (length o)) (ones_legal g o))
+  ones_none : (o : List ℕ) → Sound g o → next_row g o (lower_neighbours g (length o)) ≡ None
+  ones_none o s = go (next_row g o (lower_neighbours g (length o))) (rows_rise g o s (lower_neighbours g (length o)) (ones_legal g o))
     where
-      go : (r : Option ℕ) → NextRow g o (neighbours_of g (length o)) r → r ≡ None
+      go : (r : Option ℕ) → NextRow g o (lower_neighbours g (length o)) r → r ≡ None
       go None h = refl
       go (Some b) h = absurd (h.2 refl)
 
@@ -159,7 +159,7 @@ module _ (g : Graph) where
   highest_none zero = refl
   highest_none (suc n) =
       let e =
-      subst (λ (k : ℕ). next_row g (highest g n) (neighbours_of g k) ≡ None) (highest_length n) (ones_none (highest g n) (highest_sound n)) in
+      subst (λ (k : ℕ). next_row g (highest g n) (lower_neighbours g k) ≡ None) (highest_length n) (ones_none (highest g n) (highest_sound n)) in
       ap₂
       (λ (r : Option ℕ) (m : Option (List ℕ)).
       elim r as (λ _. Option (List ℕ)) [
@@ -177,7 +177,7 @@ module _ (g : Graph) where
     where
       go : (r : Option ℕ) → NextRow g o a r → (n : Option (List ℕ)) → (n ≡ None → o ≡ highest g (length o))
           → ◌≡◌ {A = Option (List ℕ)} (elim r [ Some b ↦ Some (b ∷ o) | None ↦ elim n [ Some p ↦ Some (0 ∷ p) | None ↦ None ] ]) None
-          → a ∷ o ≡ neighbours_of g (length o) ∷ highest g (length o)
+          → a ∷ o ≡ lower_neighbours g (length o) ∷ highest g (length o)
       go (Some b) h n k e = absurd (let z : ◌≡◌ {A = ℕ} 0 1 = cc in omega arith)
       go None h (Some p) k e = absurd (let z : ◌≡◌ {A = ℕ} 0 1 = cc in omega arith)
       go None h None k e = ap₂ (λ (x : ℕ) (y : List ℕ). x ∷ y) h.0 (k refl)

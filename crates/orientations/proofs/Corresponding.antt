@@ -5,10 +5,10 @@ use Rattle.std.proofs.lemmas.Bool.{false≢true, both_ways, not_from_true, not_f
 use Rattle.bits.specs.Sets.{has, mask_of}
 use Rattle.bits.proofs.Sets.{has_all}
 use Rattle.bits.proofs.Tests.{same_tests}
-use Rattle.sheets.specs.Graphs.{Graph, Lawful, neighbours_of}
+use Rattle.sheets.specs.Graphs.{Graph, Lawful}
 use Rattle.orientations.specs.Arrows.{Orientation}
 use Rattle.orientations.specs.Arrows.Chain.{last, link}
-use Rattle.orientations.specs.Rows.{arrow, AllWithin, Orients}
+use Rattle.orientations.specs.Rows.{arrow, AllWithin, Orients, lower_neighbours}
 use Rattle.orientations.specs.Orders.{order, of_order}
 use Rattle.orientations.specs.Theorems.{RowsCorrespond}
 use Rattle.orientations.proofs.Neighbours.{neighbour_below, neighbour_clashes, clash_neighbour, later_parts, later_from, earlier_parts, earlier_from}
@@ -50,7 +50,7 @@ module _ (g : Graph) (laws : Lawful g) where
   module _ (R : ℕ → ℕ → Bool) (r : Orientation g R) where
     -- the rows that hold R
     top : ℕ → ℕ
-    top m = mask_of m (λ p. has (neighbours_of g m) p && R m p)
+    top m = mask_of m (λ p. has (lower_neighbours g m) p && R m p)
 
     held : ℕ → List ℕ
     held zero = []
@@ -61,9 +61,9 @@ module _ (g : Graph) (laws : Lawful g) where
     held_length zero = refl
     held_length (suc m) = ap suc (held_length m)
 
-    top_has : (m p : ℕ) → has (top m) p ≡ (has (neighbours_of g m) p && R m p)
+    top_has : (m p : ℕ) → has (top m) p ≡ (has (lower_neighbours g m) p && R m p)
     unfolding top
-    top_has m p = has_all m (λ p. has (neighbours_of g m) p && R m p) (λ q e. neighbour_below g m q (and_parts _ _ e).0) p
+    top_has m p = has_all m (λ p. has (lower_neighbours g m) p && R m p) (λ q e. neighbour_below g m q (and_parts _ _ e).0) p
 
     held_rows : (m : ℕ) → AllWithin g (held m)
     unfolding held AllWithin
@@ -83,10 +83,10 @@ module _ (g : Graph) (laws : Lawful g) where
         go : Shot g (top m) (held m) q p → (arrow g (held m) q p ≡ true → R q p ≡ true) → R q p ≡ true
         go (old k) h = h k
         go (off x y) h =
-            rw (x, held_length m) (and_parts (has (neighbours_of g m) p) (R m p) (sym (top_has m p) ∙ (later_parts g (length (held m)) (top m) p y).1)).1
+            rw (x, held_length m) (and_parts (has (lower_neighbours g m) p) (R m p) (sym (top_has m p) ∙ (later_parts g (length (held m)) (top m) p y).1)).1
         go (onto x y) h =
             let (u, v) = earlier_parts g (length (held m)) (top m) q y in
-            let n : has (neighbours_of g m) q ≡ true = rw (held_length m) at u in
+            let n : has (lower_neighbours g m) q ≡ true = rw (held_length m) at u in
             let zero_there : R m q ≡ false =
             elim (cases_Bool (R m q)) [ inl e ↦ absurd (both_ways (has (top m) q) v (top_has m q ∙ and_from _ _ n e)) | inr e ↦ e ] in
             rw (x, held_length m) (r.one m q (neighbour_clashes g m q n) ∙ not_from_false (R m q) zero_there)
@@ -113,7 +113,7 @@ module _ (g : Graph) (laws : Lawful g) where
             let none : has (top m) q ≡ false =
             elim (cases_Bool (has (top m) q)) [
               | inl k ↦
-                  let back = (and_parts (has (neighbours_of g m) q) (R m q) (sym (top_has m q) ∙ k)).1 in
+                  let back = (and_parts (has (lower_neighbours g m) q) (R m q) (sym (top_has m q) ∙ k)).1 in
                   absurd (both_ways (R q m) (r.one m q c ∙ not_from_true (R m q) back) em)
               | inr k ↦ k
             ] in

@@ -6,8 +6,8 @@ use Rattle.std.proofs.lemmas.Bool.{both_ways, cases_Bool}
 use Rattle.bits.specs.Sets.{has, mask_of}
 use Rattle.bits.proofs.Sets.{has_none, has_all, mask_ext}
 use Rattle.bits.proofs.Tests.{same_tests}
-use Rattle.sheets.specs.Graphs.{Graph, neighbours_of}
-use Rattle.orientations.specs.Rows.{assignment, ancestor, Sound, Legal}
+use Rattle.sheets.specs.Graphs.{Graph}
+use Rattle.orientations.specs.Rows.{assignment, ancestor, Sound, Legal, lower_neighbours}
 use Rattle.orientations.specs.Assignments.{W, last_zero, rise, LowerRow, next_row}
 use Rattle.orientations.specs.Theorems.{W_lists, RowsOrdered, NextRow, RowsRise, RowsEnd}
 use Rattle.orientations.proofs.Neighbours.{neighbour_below, later_parts, later_from, within_is}
@@ -26,13 +26,13 @@ module _ (g : Graph) (o : List ℕ) (s : Sound g o) where
   pub tra : (q r p : ℕ) → ancestor g o q r ≡ true → ancestor g o r p ≡ true → ancestor g o q p ≡ true
   tra q r p d e = (ancestor_is g o q p).1 (join ((ancestor_is g o q r).0 d) ((ancestor_is g o r p).0 e))
 
-  placed : Placed (ancestor g o) (neighbours_of g (length o)) (W g o)
+  placed : Placed (ancestor g o) (lower_neighbours g (length o)) (W g o)
   unfolding W
   placed =
-      places_placed (ancestor g o) (length o) (rooted (ancestor g o) (length o) irr tra) (length o) (neighbours_of g (length o))
-      (neighbour_below g (length o)) (count_le (length o) (has (neighbours_of g (length o))))
+      places_placed (ancestor g o) (length o) (rooted (ancestor g o) (length o) irr tra) (length o) (lower_neighbours g (length o))
+      (neighbour_below g (length o)) (count_le (length o) (has (lower_neighbours g (length o))))
 
-  pub ordered : Ordered (ancestor g o) (length o) (neighbours_of g (length o)) (W g o)
+  pub ordered : Ordered (ancestor g o) (length o) (lower_neighbours g (length o)) (W g o)
   ordered = record { below = neighbour_below g (length o); tra = tra; once = placed.once; after = placed.after }
 
 pub w_lists : W_lists
@@ -40,20 +40,20 @@ w_lists g o s = ((placed g o s).once, λ q p x y c. (placed g o s).after q p x y
 
 module _ (g : Graph) (o : List ℕ) where
   -- a legal row's assignment is closed
-  legal_closed : (a : ℕ) → Legal g o a → Closed (ancestor g o) (neighbours_of g (length o)) (assignment g (length o) a)
+  legal_closed : (a : ℕ) → Legal g o a → Closed (ancestor g o) (lower_neighbours g (length o)) (assignment g (length o) a)
   legal_closed a l = (
     λ p e. (later_parts g (length o) a p e).0,
     λ q p nq np r e. later_from g (length o) a p np (l.1 q p nq np ((ancestor_is g o q p).0 r) (later_parts g (length o) a q e).1),
   )
 
   -- and a closed assignment, as a row, is legal
-  closed_legal : (f : ℕ → Bool) → Closed (ancestor g o) (neighbours_of g (length o)) f → Legal g o (mask_of (length o) f)
+  closed_legal : (f : ℕ → Bool) → Closed (ancestor g o) (lower_neighbours g (length o)) f → Legal g o (mask_of (length o) f)
   closed_legal f l =
       let is = has_all (length o) f (λ p e. neighbour_below g (length o) p (l.0 p e)) in
       (λ p e. l.0 p (sym (is p) ∙ e), λ q p nq np c e. is p ∙ l.1 q p nq np ((ancestor_is g o q p).1 c) (sym (is q) ∙ e))
 
   -- the row of an assignment to neighbours gives it back
-  assigned_back : (f : ℕ → Bool) → ((p : ℕ) → f p ≡ true → has (neighbours_of g (length o)) p ≡ true)
+  assigned_back : (f : ℕ → Bool) → ((p : ℕ) → f p ≡ true → has (lower_neighbours g (length o)) p ≡ true)
       → assignment g (length o) (mask_of (length o) f) ≡ f
   assigned_back f w =
       let is = has_all (length o) f (λ p e. neighbour_below g (length o) p (w p e)) in
@@ -63,13 +63,13 @@ module _ (g : Graph) (o : List ℕ) where
     -- the next row after a, which rises at j
     risen : (j : ℕ) → LastZero (W g o) (assignment g (length o) a) (Some j)
         → NextRow g o a
-        (Some (mask_of (length o) (next (ancestor g o) (length o) (neighbours_of g (length o)) (W g o) (assignment g (length o) a) j)))
+        (Some (mask_of (length o) (next (ancestor g o) (length o) (lower_neighbours g (length o)) (W g o) (assignment g (length o) a) j)))
     risen j (jw, fj, ones) =
         let L = ordered g o s in
         let c = legal_closed a l in
         let f = assignment g (length o) a in
-        let n : ℕ → Bool = next (ancestor g o) (length o) (neighbours_of g (length o)) (W g o) f j in
-        let nc : Closed (ancestor g o) (neighbours_of g (length o)) n = next_closed L f c j jw fj ones in
+        let n : ℕ → Bool = next (ancestor g o) (length o) (lower_neighbours g (length o)) (W g o) f j in
+        let nc : Closed (ancestor g o) (lower_neighbours g (length o)) n = next_closed L f c j jw fj ones in
         let back : assignment g (length o) (mask_of (length o) n) ≡ n = assigned_back n nc.0 in (
           closed_legal n nc,
           rw back (next_above L f c j jw fj ones),
@@ -79,7 +79,7 @@ module _ (g : Graph) (o : List ℕ) where
 
     unrisen : LastZero (W g o) (assignment g (length o) a) None → NextRow g o a None
     unrisen h = (
-      mask_ext a (neighbours_of g (length o))
+      mask_ext a (lower_neighbours g (length o))
           (λ p. same_tests _ _ (l.0 p) (λ e. (later_parts g (length o) a p (h p (in-w (ordered g o s) p e))).1)),
       λ c k e.
           let (t, (tw, ft, gt, eq)) = lower_is (W g o) (assignment g (length o) a) (assignment g (length o) c) e in
@@ -94,7 +94,7 @@ module _ (g : Graph) (o : List ℕ) where
             → NextRow g o a
             (elim z [
               | None ↦ None
-              | Some j ↦ Some (mask_of (length o) (next (ancestor g o) (length o) (neighbours_of g (length o)) (W g o) (assignment g (length o) a) j))
+              | Some j ↦ Some (mask_of (length o) (next (ancestor g o) (length o) (lower_neighbours g (length o)) (W g o) (assignment g (length o) a) j))
             ])
         go None h = unrisen h
         go (Some j) h = risen j h
@@ -102,7 +102,7 @@ module _ (g : Graph) (o : List ℕ) where
   pub zero_legal : Legal g o 0
   zero_legal = (λ p e. absurd (both_ways _ (has_none p) e), λ q p nq np c e. absurd (both_ways _ (has_none q) e))
 
-  pub ones_legal : Legal g o (neighbours_of g (length o))
+  pub ones_legal : Legal g o (lower_neighbours g (length o))
   ones_legal = (λ p e. e, λ q p nq np c e. np)
 
 -- of two legal rows one is the lower, unless they are equal
@@ -143,7 +143,7 @@ rows_end g o s = (
   (
     ones_legal g o,
     λ c e.
-        let N = neighbours_of g (length o) in
+        let N = lower_neighbours g (length o) in
         let (t, (tw, ft, gt, eq)) = lower_is (W g o) (assignment g (length o) N) (assignment g (length o) c) e in
         let n = w_in (ordered g o s) t tw in
         both_ways _ ft (later_from g (length o) N t n n),

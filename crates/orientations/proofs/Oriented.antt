@@ -5,11 +5,11 @@ use Rattle.std.proofs.lemmas.Bool.{false≢true, both_ways, lt-ltb, le-ltb, ltb-
 use Rattle.bits.specs.Sets.{has, mask_of}
 use Rattle.bits.proofs.Sets.{has_mask, has_past, has_all, mask_ext}
 use Rattle.bits.proofs.Tests.{same_tests}
-use Rattle.sheets.specs.Graphs.{Graph, Lawful, neighbours_of}
+use Rattle.sheets.specs.Graphs.{Graph, Lawful}
 use Rattle.orientations.specs.Arrows.{Chain}
 use Rattle.orientations.specs.Arrows.Chain.{last, link}
 use Rattle.orientations.specs.Placing.{before}
-use Rattle.orientations.specs.Rows.{arrow, ancestor, AllWithin, Sound, Orients}
+use Rattle.orientations.specs.Rows.{arrow, ancestor, AllWithin, Sound, Orients, lower_neighbours}
 use Rattle.orientations.specs.Orders.{EachOnce, order, Follows, Agrees, of_order}
 use Rattle.orientations.specs.Theorems.{OrdersFollow, OrdersOriented}
 use Rattle.orientations.proofs.Neighbours.{neighbour_below, neighbour_clashes, clash_neighbour, later_parts, later_from, earlier_parts, earlier_from}
@@ -63,11 +63,11 @@ module _ (g : Graph) (n : ℕ) (l : List ℕ) (d : EachOnce n l) where
 
   -- the top row of the orientation of l
   abbrev top : ℕ → ℕ
-  top m = mask_of m (λ p. has (neighbours_of g m) p && before p l m)
+  top m = mask_of m (λ p. has (lower_neighbours g m) p && before p l m)
 
-  top_has : (m p : ℕ) → has (top m) p ≡ (has (neighbours_of g m) p && before p l m)
+  top_has : (m p : ℕ) → has (top m) p ≡ (has (lower_neighbours g m) p && before p l m)
   top_has m p =
-      has_all m (λ p. has (neighbours_of g m) p && before p l m) (λ q e. neighbour_below g m q (and_parts _ _ e).0) p
+      has_all m (λ p. has (lower_neighbours g m) p && before p l m) (λ q e. neighbour_below g m q (and_parts _ _ e).0) p
 
   of_rows : (m : ℕ) → AllWithin g (of_order g l m)
   unfolding of_order AllWithin
@@ -85,7 +85,7 @@ module _ (g : Graph) (n : ℕ) (l : List ℕ) (d : EachOnce n l) where
           rw (x, of_length m) (and_parts _ _ (sym (top_has m p) ∙ (later_parts g (length (of_order g l m)) (top m) p y).1)).1
       go (onto x y) r =
           let (u, v) = earlier_parts g (length (of_order g l m)) (top m) q y in
-          let u' : has (neighbours_of g m) q ≡ true = rw (of_length m) at u in
+          let u' : has (lower_neighbours g m) q ≡ true = rw (of_length m) at u in
           let lt = neighbour_below g m q u' in
           elim (before_tri l q p (in_order q (omega arith)) (in_order p (let z = of_length m in omega arith)) (let z = of_length m in omega arith)) [
             | inl b ↦ b
@@ -114,7 +114,7 @@ module _ (g : Graph) (n : ℕ) (l : List ℕ) (d : EachOnce n l) where
       let np = s.1 p e in
       top_has (length o) p ∙ and_from _ _ np (f (length o) p (shot_back g a o _ _ (off refl (later_from g (length o) a p np e)))))
       (λ e.
-      let (x, y) = and_parts (has (neighbours_of g (length o)) p) (before p l (length o)) (sym (top_has (length o) p) ∙ e) in
+      let (x, y) = and_parts (has (lower_neighbours g (length o)) p) (before p l (length o)) (sym (top_has (length o) p) ∙ e) in
       elim (cases_Bool (has a p)) [
         | inl k ↦ k
         | inr k ↦ absurd (before_asym l _ _ y (f p (length o) (shot_back g a o _ _ (onto refl (earlier_from g (length o) a p x k)))))
@@ -144,7 +144,7 @@ module _ (g : Graph) (laws : Lawful g) where
       Arrow q p = (arrow g (a ∷ o) q p ≡ true) ⊎ (arrow g (a ∷ o) p q ≡ true)
 
       -- the top step has one to or from each neighbour
-      at_top : (p : ℕ) → has (neighbours_of g (length o)) p ≡ true → Arrow (length o) p
+      at_top : (p : ℕ) → has (lower_neighbours g (length o)) p ≡ true → Arrow (length o) p
       at_top p n =
           elim (cases_Bool (has a p)) [
             | inl k ↦ inl (shot_back g a o (length o) p (off refl (later_from g (length o) a p n k)))

@@ -3,9 +3,9 @@
 use Rattle.std.specs.Prelude.{◌≡◌, ℕ, Bool, true, false, cond, not, ◌&&◌, ◌||◌, List, [], ◌∷◌, length, Some, None, Option, ◌==◌}
 use Rattle.std.specs.Bool.{beq}
 use Rattle.bits.specs.Sets.{has, mask_of, any}
-use Rattle.sheets.specs.Graphs.{Graph, neighbours_of}
+use Rattle.sheets.specs.Graphs.{Graph}
 use Rattle.orientations.specs.Placing.{places, behind}
-use Rattle.orientations.specs.Rows.{assignment, ancestor}
+use Rattle.orientations.specs.Rows.{assignment, ancestor, lower_neighbours}
 
 -- whether f is lower than f': it has 0 at the first place of w where they differ
 unfoldable pub lower : List ℕ → (ℕ → Bool) → (ℕ → Bool) → Bool
@@ -35,7 +35,7 @@ module _ (g : Graph) where
   -- W of the step that comes after o: its neighbours, placed one after the other, the lowest that has no unplaced neighbour as an
   -- ancestor. Chains stay among the steps below and may pass steps that are no neighbours
   unfoldable pub W : List ℕ → List ℕ
-  W o = places (ancestor g o) (length o) (length o) (neighbours_of g (length o))
+  W o = places (ancestor g o) (length o) (length o) (lower_neighbours g (length o))
 
   -- the row a is lower than b over o: its assignment is
   abbrev pub LowerRow : List ℕ → ℕ → ℕ → Type 0
@@ -43,4 +43,4 @@ module _ (g : Graph) where
 
   -- the row of the next assignment after that of the row a
   unfoldable pub next_row : List ℕ → ℕ → Option ℕ
-  next_row o a = rise (ancestor g o) (length o) (neighbours_of g (length o)) (W o) (assignment g (length o) a)
+  next_row o a = rise (ancestor g o) (length o) (lower_neighbours g (length o)) (W o) (assignment g (length o) a)

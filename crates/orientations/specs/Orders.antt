@@ -1,9 +1,9 @@
 -- Orders of the steps, the order of an orientation, and the orientation of an order.
 use Rattle.std.specs.Prelude.{◌≡◌, ℕ, zero, suc, true, cond, ◌&&◌, List, [], ◌∷◌, length, nat_lt}
 use Rattle.bits.specs.Sets.{has, mask_of}
-use Rattle.sheets.specs.Graphs.{Graph, neighbours_of}
+use Rattle.sheets.specs.Graphs.{Graph}
 use Rattle.orientations.specs.Placing.{places, times, before}
-use Rattle.orientations.specs.Rows.{arrow}
+use Rattle.orientations.specs.Rows.{arrow, lower_neighbours}
 
 -- l has each of the steps below n once, and nothing else
 abbrev pub EachOnce : ℕ → List ℕ → Type 0
@@ -25,4 +25,4 @@ module _ (g : Graph) where
   -- the orientation of the first n steps in which every clashing pair is put as in the order l
   unfoldable pub of_order : List ℕ → ℕ → List ℕ
   of_order l zero = []
-  of_order l (suc n) = mask_of n (λ p. has (neighbours_of g n) p && before p l n) ∷ of_order l n
+  of_order l (suc n) = mask_of n (λ p. has (lower_neighbours g n) p && before p l n) ∷ of_order l n

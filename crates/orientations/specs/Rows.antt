@@ -2,9 +2,14 @@
 -- the row a to the orientation o of the steps below it. The row of a step is the set of the neighbours that the step runs before;
 -- whatever else is in it counts for nothing.
 use Rattle.std.specs.Prelude.{◌≡◌, ℕ, Bool, true, false, cond, not, ◌&&◌, ◌||◌, List, [], ◌∷◌, length, ◌==◌, nat_lt}
-use Rattle.bits.specs.Sets.{has, any}
-use Rattle.sheets.specs.Graphs.{Graph, neighbours_of}
+use Rattle.bits.specs.Sets.{has, mask_of, any}
+use Rattle.sheets.specs.Graphs.{Graph}
 use Rattle.orientations.specs.Arrows.{Chain, Acyclic}
+
+-- the neighbours of step i as a set: the lower-numbered steps that clash with it, however many steps there are. Where 0 and 1 both
+-- clash with 2, lower_neighbours g 2 is 3, the set of 0 and 1
+unfoldable pub lower_neighbours : Graph → ℕ → ℕ
+lower_neighbours g i = mask_of i (g.clashes i)
 
 -- the row of step k; 0 where o has none
 unfoldable pub row : List ℕ → ℕ → ℕ
@@ -33,11 +38,11 @@ pointed R i earlier later q p = R q p || (q == i && later p) || (p == i && earli
 module _ (g : Graph) where
   -- the assignment that the row a gives to step i: 1 at the neighbours that i runs before
   unfoldable pub assignment : ℕ → ℕ → ℕ → Bool
-  assignment i a p = has (neighbours_of g i) p && has a p
+  assignment i a p = has (lower_neighbours g i) p && has a p
 
   -- the neighbours that run before i: the assignment has 0 there
   unfoldable pub earlier : ℕ → ℕ → ℕ → Bool
-  earlier i a p = has (neighbours_of g i) p && not (has a p)
+  earlier i a p = has (lower_neighbours g i) p && not (has a p)
 
   -- whether there is an arrow from q to p. With one clash, 0–1, and the row 1 for step 1, the arrow is from 1 to 0
   unfoldable pub arrow : List ℕ → ℕ → ℕ → Bool
@@ -51,7 +56,7 @@ module _ (g : Graph) where
 
   -- the row a holds neighbours of step i alone
   abbrev pub Within : ℕ → ℕ → Type 0
-  Within i a = (p : ℕ) → has a p ≡ true → has (neighbours_of g i) p ≡ true
+  Within i a = (p : ℕ) → has a p ≡ true → has (lower_neighbours g i) p ≡ true
 
   -- each row of o holds neighbours of its step alone
   unfoldable pub AllWithin : List ℕ → Type 0
@@ -74,5 +79,5 @@ module _ (g : Graph) where
   abbrev pub Legal : List ℕ → ℕ → Type 0
   Legal o a =
       Within (length o) a
-      × ((q p : ℕ) → has (neighbours_of g (length o)) q ≡ true → has (neighbours_of g (length o)) p ≡ true → Chain (arrow o) q p
+      × ((q p : ℕ) → has (lower_neighbours g (length o)) q ≡ true → has (lower_neighbours g (length o)) p ≡ true → Chain (arrow o) q p
       → has a q ≡ true → has a p ≡ true)

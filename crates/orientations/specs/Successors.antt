@@ -1,7 +1,7 @@
 -- Which of two orientations is lower, the successor, and lists of successors.
 use Rattle.std.specs.Prelude.{◌≡◌, ℕ, zero, suc, ◌*◌, ◌<◌, ◌⊎◌, List, [], ◌∷◌, length, Some, None, Option, ◌≢◌}
-use Rattle.sheets.specs.Graphs.{Graph, neighbours_of}
-use Rattle.orientations.specs.Rows.{row, Orients}
+use Rattle.sheets.specs.Graphs.{Graph}
+use Rattle.orientations.specs.Rows.{row, Orients, lower_neighbours}
 use Rattle.orientations.specs.Assignments.{LowerRow, next_row}
 
 -- the lowest orientation of n steps: every neighbour runs before
@@ -34,7 +34,7 @@ module _ (g : Graph) where
   -- the highest orientation of n steps: every neighbour runs after
   unfoldable pub highest : ℕ → List ℕ
   highest zero = []
-  highest (suc n) = neighbours_of g n ∷ highest n
+  highest (suc n) = lower_neighbours g n ∷ highest n
 
   -- p is the successor of o: the lowest orientation above it
   pub record Successor (o p : List ℕ) : Type 0 where

@@ -1,10 +1,10 @@
 -- What is proved of orientations, in the subject's words. Each statement stands on the contract of a function of this crate.
 use Rattle.std.specs.Prelude.{◌≡◌, ℕ, ◌<◌, ◌≤◌, Bool, true, cond, ◌⊎◌, ◌↔◌, List, [], ◌∷◌, length, Some, None, Decides, Option, ◌≢◌, slice_index_or}
 use Rattle.bits.specs.Sets.{has}
-use Rattle.sheets.specs.Graphs.{Graph, Lawful, neighbours_of}
+use Rattle.sheets.specs.Graphs.{Graph, Lawful}
 use Rattle.orientations.specs.Arrows.{Chain, Orientation}
 use Rattle.orientations.specs.Placing.{times, before}
-use Rattle.orientations.specs.Rows.{row, under, arrow, ancestor, Sound, Orients, Legal}
+use Rattle.orientations.specs.Rows.{row, under, arrow, ancestor, Sound, Orients, Legal, lower_neighbours}
 use Rattle.orientations.specs.Assignments.{W, LowerRow, next_row}
 use Rattle.orientations.specs.Successors.{Place, lowest, highest, Lower, Changed, Next, successor, changed, upcoming, all_orientations, factorial}
 use Rattle.orientations.specs.Lists.{Listed, Apart, Rising, Possible, Coming}
@@ -35,8 +35,8 @@ LegalAdds = (g : Graph) (a : ℕ) (o : List ℕ) → Sound g (a ∷ o) ↔ (Soun
 abbrev pub W_lists : Type 0
 W_lists =
     (g : Graph) (o : List ℕ) → Sound g o
-    → ((p : ℕ) → times (W g o) p ≡ cond (has (neighbours_of g (length o)) p) 1 0)
-    × ((q p : ℕ) → has (neighbours_of g (length o)) q ≡ true → has (neighbours_of g (length o)) p ≡ true → Chain (arrow g o) q p
+    → ((p : ℕ) → times (W g o) p ≡ cond (has (lower_neighbours g (length o)) p) 1 0)
+    × ((q p : ℕ) → has (lower_neighbours g (length o)) q ≡ true → has (lower_neighbours g (length o)) p ≡ true → Chain (arrow g o) q p
     → before p (W g o) q ≡ true)
 
 -- over one orientation, lower is a strict total order of the legal rows
@@ -51,9 +51,9 @@ RowsOrdered =
 -- and then no legal row is above it
 abbrev pub NextRow : Graph → List ℕ → ℕ → Option ℕ → Type 0
 NextRow g o a (Some b) =
-    Legal g o b × LowerRow g o a b × (a ≢ neighbours_of g (length o))
+    Legal g o b × LowerRow g o a b × (a ≢ lower_neighbours g (length o))
     × ((c : ℕ) → Legal g o c → LowerRow g o a c → LowerRow g o c b → ⊥)
-NextRow g o a None = (a ≡ neighbours_of g (length o)) × ((c : ℕ) → Legal g o c → LowerRow g o a c → ⊥)
+NextRow g o a None = (a ≡ lower_neighbours g (length o)) × ((c : ℕ) → Legal g o c → LowerRow g o a c → ⊥)
 
 -- raising the rightmost 0 of W, with zeros after it and then closure, gives the next legal row
 abbrev pub RowsRise : Type 0
@@ -64,7 +64,7 @@ abbrev pub RowsEnd : Type 0
 RowsEnd =
     (g : Graph) (o : List ℕ) → Sound g o
     → (Legal g o 0 × ((c : ℕ) → LowerRow g o c 0 → ⊥))
-    × (Legal g o (neighbours_of g (length o)) × ((c : ℕ) → LowerRow g o (neighbours_of g (length o)) c → ⊥))
+    × (Legal g o (lower_neighbours g (length o)) × ((c : ℕ) → LowerRow g o (lower_neighbours g (length o)) c → ⊥))
 
 -- ---- which orientation is lower
 

@@ -8,9 +8,9 @@ use Rattle.bits.proofs.Tests.{or_false, or_swap, and_true, not_so}
 use Rattle.bits.proofs.Sets.{has_none, has_all, mask_same, mask_members, any_some, any_same, any_mask}
 use Rattle.bits.proofs.Searches.{any_alike, any_or_here}
 use Rattle.orientations.specs.Assignments.{closed}
-use Rattle.orientations.specs.Rows.{grown, pointed, assignment, earlier}
+use Rattle.orientations.specs.Rows.{grown, pointed, assignment, earlier, lower_neighbours}
 use Rattle.orientations.proofs.Neighbours.{neighbour_below, later_below, earlier_below}
-use Rattle.sheets.specs.Graphs.{Graph, neighbours_of}
+use Rattle.sheets.specs.Graphs.{Graph}
 use Rattle.sheets.specs.Limits.{limit}
 use Rattle.rows.specs.Relations.{leads}
 use Rattle.rows.proofs.Growing.{Led, Narrow, AllNarrow, mask_narrow, stepped}
@@ -36,7 +36,7 @@ past t long q p h = ap (λ (m : ℕ). has m q) (get_or_past t p 0 (omega arith))
 
 -- step i with the row a is added to t: L are the neighbours N that it runs before, and E those that run before it. t₁ is t after `lead`
 module _ (g : Graph) (t t₁ : List ℕ) (i a N L E : ℕ) (few : i < limit) (n : AllNarrow t) (whole : length t ≡ limit) (long : length t₁ ≡ limit)
-    (is_N : N ≡ neighbours_of g i) (is_L : L ≡ mask_of width (λ q. has N q && has a q)) (is_E : E ≡ mask_of width (λ q. has N q && not (has a q))) where
+    (is_N : N ≡ lower_neighbours g i) (is_L : L ≡ mask_of width (λ q. has N q && has a q)) (is_E : E ≡ mask_of width (λ q. has N q && not (has a q))) where
   low : (r : ℕ) → has N r ≡ true → r < i
   low r e = neighbour_below g i r (ap (λ (m : ℕ). has m r) (sym is_N) ∙ e)
 

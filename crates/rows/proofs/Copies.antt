@@ -5,7 +5,8 @@ use mathlib.Core.Path.{fun_ext}
 use Rattle.std.proofs.lemmas.Bool.{lt-ltb, ltb-true, ne_eqb, cases_lt, cases_order, and_from, and_parts}
 use Rattle.bits.specs.Sets.{width, has, mask_of}
 use Rattle.bits.proofs.Sets.{mask_alike}
-use Rattle.sheets.specs.Graphs.{Graph, Lawful, neighbours_of}
+use Rattle.sheets.specs.Graphs.{Graph, Lawful}
+use Rattle.orientations.specs.Rows.{lower_neighbours}
 use Rattle.sheets.specs.Fences.{fenced, fence_clash, fence_graph}
 use Rattle.sheets.specs.FenceLaws.{fence_lawful}
 use Rattle.orientations.proofs.Neighbours.{neighbour_is, clash_past}
@@ -22,8 +23,8 @@ entry_tells n table i j h l =
 
 -- the lower steps in the entry of a step are its neighbours
 pub entry_neighbours : (n : ℕ) (table : List ℕ) (i : ℕ) (b : ℕ → Bool) → i < n → n ≤ width → ((q : ℕ) → q < width → b q ≡ ltb q i)
-    → mask_of width (λ q. has (get_or table i 0) q && b q) ≡ neighbours_of (fence_graph (free_graph n) table) i
-unfolding neighbours_of
+    → mask_of width (λ q. has (get_or table i 0) q && b q) ≡ lower_neighbours (fence_graph (free_graph n) table) i
+unfolding lower_neighbours
 entry_neighbours n table i b h few below =
     mask_alike width i _ _
     (λ q l e.
@@ -33,7 +34,7 @@ entry_neighbours n table i b h few below =
     (λ q l e. (omega arith, and_from _ _ (sym (entry_tells n table i q l h) ∙ e) (below q (omega arith) ∙ lt-ltb q i l)))
 
 -- a table that holds the neighbours of each step means the same graph
-module _ (g : Graph) (laws : Lawful g) (table : List ℕ) (holds : (i : ℕ) → i < g.steps → get_or table i 0 ≡ neighbours_of g i) where
+module _ (g : Graph) (laws : Lawful g) (table : List ℕ) (holds : (i : ℕ) → i < g.steps → get_or table i 0 ≡ lower_neighbours g i) where
   abbrev copy : Graph
   copy = fence_graph (free_graph g.steps) table
 

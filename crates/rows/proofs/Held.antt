@@ -7,9 +7,9 @@ use Rattle.std.proofs.lemmas.List.{get_or_past, get_or-replicate}
 use Rattle.std.proofs.lemmas.Bool.{cases_eq, cases_lt}
 use Rattle.bits.specs.Sets.{has}
 use Rattle.bits.proofs.Sets.{has_none}
-use Rattle.orientations.specs.Rows.{assignment, earlier, Within, AllWithin}
+use Rattle.orientations.specs.Rows.{assignment, earlier, Within, AllWithin, lower_neighbours}
 use Rattle.orientations.proofs.Neighbours.{later_none, earlier_none}
-use Rattle.sheets.specs.Graphs.{Graph, neighbours_of}
+use Rattle.sheets.specs.Graphs.{Graph}
 use Rattle.rows.specs.Relations.{leads, rows_of}
 
 -- ---- rows
@@ -77,7 +77,7 @@ module _ (g : Graph) (F : (ℕ → ℕ → Bool) → ℕ → (ℕ → Bool) → 
           ∙ sym (adds a (rows_of rows i) q p)
 
   -- steps without neighbours can be left out at the top
-  pub held_past : (rows : List ℕ) (m n : ℕ) → m ≤ n → ((i : ℕ) → m ≤ i → i < n → 0 ≡ neighbours_of g i) → H (rows_of rows n) ≡ H (rows_of rows m)
+  pub held_past : (rows : List ℕ) (m n : ℕ) → m ≤ n → ((i : ℕ) → m ≤ i → i < n → 0 ≡ lower_neighbours g i) → H (rows_of rows n) ≡ H (rows_of rows m)
   unfolding rows_of
   held_past rows m zero h none = ap (λ (k : ℕ). H (rows_of rows k)) (let z : 0 ≡ m = omega arith in z)
   held_past rows m (suc n) h none =
@@ -85,7 +85,7 @@ module _ (g : Graph) (F : (ℕ → ℕ → Bool) → ℕ → (ℕ → Bool) → 
         | inl e ↦ ap (λ (k : ℕ). H (rows_of rows k)) (sym e)
         | inr e ↦
             let o = rows_of rows n in
-            let empty : 0 ≡ neighbours_of g (length o) = let z = length_rows rows n in none (length o) (omega arith) (omega arith) in
+            let empty : 0 ≡ lower_neighbours g (length o) = let z = length_rows rows n in none (length o) (omega arith) (omega arith) in
             fun_ext
             (λ q. fun_ext
             (λ p.

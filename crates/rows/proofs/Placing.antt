@@ -8,12 +8,12 @@ use Rattle.bits.proofs.Sets.{has_mask}
 use Rattle.orientations.specs.Assignments.{W}
 use Rattle.orientations.specs.Orders.{order, EachOnce, Follows}
 use Rattle.orientations.specs.Placing.{lowest_candidate_of, places}
-use Rattle.orientations.specs.Rows.{arrow, ancestor, Orients}
+use Rattle.orientations.specs.Rows.{arrow, ancestor, Orients, lower_neighbours}
 use Rattle.orientations.proofs.Bounds.{places_alike, places_same, places_bound, places_enough, places_room}
 use Rattle.orientations.proofs.Counting.{each_length}
 use Rattle.orientations.proofs.Oriented.{orders_follow}
 use Rattle.orientations.proofs.Neighbours.{neighbour_below, neighbour_clashes}
-use Rattle.sheets.specs.Graphs.{Graph, Lawful, neighbours_of}
+use Rattle.sheets.specs.Graphs.{Graph, Lawful}
 use Rattle.sheets.specs.Limits.{limit}
 
 -- ---- places
@@ -39,7 +39,7 @@ module _ (R : ℕ → ℕ → Bool) (w i U : ℕ) (wide : i ≤ w) where
 -- ---- whole lists
 
 -- the neighbours of a step, placed by their ancestors below it
-pub W_placed : (g : Graph) → Lawful g → (o : List ℕ) → places (ancestor g o) limit limit (neighbours_of g (length o)) ≡ W g o
+pub W_placed : (g : Graph) → Lawful g → (o : List ℕ) → places (ancestor g o) limit limit (lower_neighbours g (length o)) ≡ W g o
 unfolding W
 W_placed g laws o =
     elim (cases_lt limit (length o)) [
@@ -53,7 +53,7 @@ W_placed g laws o =
     R = ancestor g o
 
     N : ℕ
-    N = neighbours_of g (length o)
+    N = lower_neighbours g (length o)
 
 -- the steps that have rows, placed by their arrows
 pub order_placed : (g : Graph) (o : List ℕ) (k U : ℕ) → length o ≤ limit → ((q : ℕ) → q < width → has U q ≡ ltb q (length o))

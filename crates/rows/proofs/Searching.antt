@@ -6,9 +6,9 @@ use Rattle.std.proofs.lemmas.Bool.{cases_Bool, and_parts, and_from}
 use Rattle.bits.specs.Sets.{width, has, mask_of, inserted}
 use Rattle.bits.proofs.Searches.{any_alike}
 use Rattle.bits.proofs.Sets.{has_all, mask_alike}
-use Rattle.sheets.specs.Graphs.{Graph, neighbours_of}
+use Rattle.sheets.specs.Graphs.{Graph}
 use Rattle.orientations.specs.Assignments.{last_zero, raised, closed, rise, W, next_row}
-use Rattle.orientations.specs.Rows.{assignment, ancestor}
+use Rattle.orientations.specs.Rows.{assignment, ancestor, lower_neighbours}
 use Rattle.orientations.proofs.Bounds.{ancestor_below}
 use Rattle.orientations.proofs.Neighbours.{neighbour_below, later_below}
 use Rattle.orientations.proofs.Placed.{places_once}
@@ -35,7 +35,7 @@ module _ (g : Graph) (a : ℕ) (o : List ℕ) where
   f = assignment g (length o) a
 
   abbrev N : ℕ
-  N = neighbours_of g (length o)
+  N = lower_neighbours g (length o)
 
   pub level_full : last_zero (W g o) (assignment g (length o) a) ≡ None → next_row g o a ≡ None
   unfolding next_row rise
@@ -51,7 +51,7 @@ module _ (g : Graph) (a : ℕ) (o : List ℕ) where
   -- the row that the code makes at the rightmost 0, from the table t of ancestors and the raised set `ones`
   pub level_rises : (t : List ℕ) (j ones : ℕ) → length o ≤ width → leads t ≡ ancestor g o
       → last_zero (W g o) (assignment g (length o) a) ≡ Some j → ((p : ℕ) → has ones p ≡ raised (W g o) (assignment g (length o) a) j p)
-      → next_row g o a ≡ Some (mask_of width (λ p. has (neighbours_of g (length o)) p && closed (leads t) width (has ones) p))
+      → next_row g o a ≡ Some (mask_of width (λ p. has (lower_neighbours g (length o)) p && closed (leads t) width (has ones) p))
   unfolding next_row rise
   level_rises t j ones few e z is =
       ap
@@ -89,8 +89,8 @@ module _ (g : Graph) (a : ℕ) (o : List ℕ) where
 pub W_once : (g : Graph) (o : List ℕ) → Once (W g o)
 unfolding W
 W_once g o p =
-    let most = places_once (ancestor g o) (length o) (length o) (neighbours_of g (length o)) p in
-    let one = bit (has (neighbours_of g (length o)) p) in
+    let most = places_once (ancestor g o) (length o) (length o) (lower_neighbours g (length o)) p in
+    let one = bit (has (lower_neighbours g (length o)) p) in
     omega arith
   where
     bit : (b : Bool) → cond b 1 0 ≤ 1
@@ -105,7 +105,7 @@ module _ (g : Graph) (rows : List ℕ) (s : ℕ) (few : s ≤ width) where
   a = get_or rows s 0
 
   -- the set with which the search along W begins
-  pub array_ones : (N ones : ℕ) → N ≡ neighbours_of g s → ones ≡ mask_of width (λ q. has N q && has (get_or rows s 0) q)
+  pub array_ones : (N ones : ℕ) → N ≡ lower_neighbours g s → ones ≡ mask_of width (λ q. has N q && has (get_or rows s 0) q)
       → (p : ℕ) → has ones p ≡ assignment g s (get_or rows s 0) p
   unfolding assignment
   array_ones N ones is_N is p =
@@ -118,8 +118,8 @@ module _ (g : Graph) (rows : List ℕ) (s : ℕ) (few : s ≤ width) where
   array_place k l =
       let p = get_or (W g o) k 0 in
       let there : In (W g o) p = in-at (W g o) k l in
-      let most = places_once (ancestor g o) (length o) (length o) (neighbours_of g (length o)) p in
-      elim (cases_Bool (has (neighbours_of g (length o)) p)) [
+      let most = places_once (ancestor g o) (length o) (length o) (lower_neighbours g (length o)) p in
+      elim (cases_Bool (has (lower_neighbours g (length o)) p)) [
         | inl e ↦ let z = neighbour_below g (length o) p e in let long = length_rows rows s in omega arith
         | inr e ↦ let none = rw e at most in absurd (omega arith)
       ]
@@ -145,16 +145,16 @@ module _ (g : Graph) (rows : List ℕ) (s : ℕ) (few : s ≤ width) where
 
   pub array_rises : (t : List ℕ) (j ones N row : ℕ) → leads t ≡ ancestor g (rows_of rows s)
       → last_zero (W g (rows_of rows s)) (assignment g s (get_or rows s 0)) ≡ Some j
-      → ((p : ℕ) → has ones p ≡ raised (W g (rows_of rows s)) (assignment g s (get_or rows s 0)) j p) → N ≡ neighbours_of g s
+      → ((p : ℕ) → has ones p ≡ raised (W g (rows_of rows s)) (assignment g s (get_or rows s 0)) j p) → N ≡ lower_neighbours g s
       → row ≡ mask_of width (λ p. has N p && closed (leads t) width (has ones) p)
       → rise_of g (rows_of rows (suc s)) ≡ Some (record { step = s; row = row })
   unfolding rows_of
   array_rises t j ones N row e z is is_N is_row =
       let long = length_rows rows s in
-      let b = mask_of width (λ p. has (neighbours_of g (length o)) p && closed (leads t) width (has ones) p) in
+      let b = mask_of width (λ p. has (lower_neighbours g (length o)) p && closed (leads t) width (has ones) p) in
       let risen = level_rises g a o t j ones (omega arith) e
       (subst (λ (k : ℕ). last_zero (W g o) (assignment g k a) ≡ Some j) (sym long) z)
       (subst (λ (k : ℕ). (p : ℕ) → has ones p ≡ raised (W g o) (assignment g k a) j p) (sym long) is) in
       rise_here g a o b risen
       ∙ ap₂ (λ (x y : ℕ). Some (record { step = x; row = y })) long
-      (ap (λ (n : ℕ). mask_of width (λ p. has n p && closed (leads t) width (has ones) p)) (ap (neighbours_of g) long ∙ sym is_N) ∙ sym is_row)
+      (ap (λ (n : ℕ). mask_of width (λ p. has n p && closed (leads t) width (has ones) p)) (ap (lower_neighbours g) long ∙ sym is_N) ∙ sym is_row)

@@ -3,15 +3,15 @@ use Rattle.std.proofs.Common.{◌≡◌, ℕ, not, ◌&&◌, eqb, get_or, sym, a
 use Rattle.std.proofs.lemmas.Bool.{false≢true, both_ways, cases_Bool, ne_eqb, not-true, not_from_false, and_parts, and_from}
 use Rattle.bits.specs.Sets.{width, has, mask_of}
 use Rattle.bits.proofs.Sets.{has_none, has_mask, any_some, any_mask}
-use Rattle.orientations.specs.Rows.{Within}
-use Rattle.sheets.specs.Graphs.{Graph, neighbours_of}
+use Rattle.orientations.specs.Rows.{Within, lower_neighbours}
+use Rattle.sheets.specs.Graphs.{Graph}
 use Rattle.rows.specs.Conflicts.{graph_of}
 use Rattle.rows.proofs.Growing.{Narrow, narrow}
 use Rattle.rows.proofs.Held.{length_rows, within_from, within_at}
 use Rattle.rows.proofs.orders.holds_orientation.Goals as goal
 
 -- D is what the row a of step i holds beside its neighbours N
-module _ (g : Graph) (i a N D : ℕ) (is_N : N ≡ neighbours_of g i) (is_D : D ≡ mask_of width (λ q. has a q && not (has N q))) where
+module _ (g : Graph) (i a N D : ℕ) (is_N : N ≡ lower_neighbours g i) (is_D : D ≡ mask_of width (λ q. has a q && not (has N q))) where
   none_beside : Narrow a → D ≡ 0 → Within g i a
   none_beside narrow_a none p e =
       ap (λ (m : ℕ). has m p) (sym is_N)

@@ -2,7 +2,7 @@
 use Rattle.std.proofs.Common.{◌≡◌, ℕ, Bool, replicate, sym, ap, ◌∙◌, ap₂}
 use Rattle.orientations.specs.Assignments.{W}
 use Rattle.orientations.specs.Placing.{places}
-use Rattle.sheets.specs.Graphs.{neighbours_of}
+use Rattle.orientations.specs.Rows.{lower_neighbours}
 use Rattle.sheets.specs.Limits.{limit}
 use Rattle.rows.specs.Conflicts.{graph_of, conflicts_lawful}
 use Rattle.rows.specs.Relations.{leads, rows_of}
@@ -19,7 +19,7 @@ returns c =
     let P = places (leads c.ancestors.result) limit limit N in
     let whole : P ≡ W g o =
     ap₂ (λ (R : ℕ → ℕ → Bool) (n : ℕ). places R limit limit n) c.ancestors.ensures.answer
-    (c.neighbours.ensures ∙ ap (neighbours_of g) (sym (length_rows c.args.rows.now c.args.step)))
+    (c.neighbours.ensures ∙ ap (lower_neighbours g) (sym (length_rows c.args.rows.now c.args.step)))
     ∙ W_placed g (conflicts_lawful conflicts) o in
     let level = c.over.ensures in
     record {
