@@ -4,10 +4,9 @@ ghost use Rattle.bits.specs.Sets.{width, has, mask_of};
 ghost use Rattle.orientations.specs.Arrows.{Chain};
 ghost use Rattle.orientations.specs.Assignments.{W, closed};
 ghost use Rattle.orientations.specs.Placing.{places};
-ghost use Rattle.orientations.specs.Rows.{grown, pointed, assignment, earlier, arrow, ancestor};
+ghost use Rattle.orientations.specs.Rows.{lower_neighbours, grown, pointed, assignment, earlier, arrow, ancestor};
 ghost use Rattle.rows.specs.Conflicts.{graph_of};
 ghost use Rattle.rows.specs.Relations.{leads, rows_of};
-ghost use Rattle.sheets.specs.Graphs.{neighbours_of};
 ghost use Rattle.sheets.specs.Limits.{limit};
 
 use crate::graph::Conflicts;
@@ -123,7 +122,7 @@ impl Level {
 
     /// The level of a step over the rows of the steps below it.
     pub fn of(conflicts: &Conflicts, rows: &Rows, step: usize) -> Level
-        ensures neighbours { result.neighbours ≡ neighbours_of (graph_of conflicts.now) step }
+        ensures neighbours { result.neighbours ≡ lower_neighbours (graph_of conflicts.now) step }
         ensures ancestors { leads result.ancestors ≡ ancestor (graph_of conflicts.now) (rows_of rows.now step) }
         ensures places { result.places ≡ W (graph_of conflicts.now) (rows_of rows.now step) ++ drop result.size (replicate limit 0) }
         ensures size { result.size ≡ length (W (graph_of conflicts.now) (rows_of rows.now step)) }

@@ -1,7 +1,7 @@
 //! Copying the clashes of a sheet, and the neighbours of a step.
 ghost use Rattle.std.specs.Prelude.{◌≡◌};
+ghost use Rattle.orientations.specs.Rows.{lower_neighbours};
 ghost use Rattle.rows.specs.Conflicts.{graph_of};
-ghost use Rattle.sheets.specs.Graphs.{neighbours_of};
 
 use crate::graph::Conflicts;
 use bits::Mask;
@@ -22,7 +22,7 @@ impl Conflicts {
 
     /// The neighbours of a step: the lower-numbered steps that clash with it. A number that is no step has none.
     pub fn neighbours(&self, step: usize) -> Mask
-        ensures { result ≡ neighbours_of (graph_of self.now) step }
+        ensures { result ≡ lower_neighbours (graph_of self.now) step }
     {
         if step >= self.count {
             return 0;

@@ -22,7 +22,7 @@ returns-then-step-ge-LIMIT c =
 
 pub returns : goal.returns
 returns c =
-    let own = c.if-intersection-eq0.own_val in
+    let own = c.if-intersection-eq0.own in
     let I = c.union-into.result in
     let K = c.intersection.result in
     let is_own : ((K ≡ 0) × (own ≡ I)) ⊎ ((K ≡ 0 → ⊥) × (own ≡ inserted I c.args.step)) =

@@ -1,5 +1,6 @@
 -- The copy has the neighbours of every step, so it means the same graph.
-use Rattle.std.proofs.Common.{◌<◌, ◌≢◌, length, refl, arith, length-set, get_or-set_other, get_or-set_same, below_none, below_more}
+use Rattle.std.proofs.Common.{◌<◌, ◌≢◌, length, ◌∙◌, refl, arith, length-set, get_or-set_other, get_or-set_same, below_none, below_more}
+use Rattle.orientations.proofs.Neighbours.{neighbours_same}
 use Rattle.rows.proofs.Copies.{copy_same}
 use Rattle.rows.proofs.graph.Conflicts.of.Goals as goal
 
@@ -13,13 +14,8 @@ loop-step-preserved g c =
       simp length-set c.loop-step.invariant.0,
       below_more _ _
           (λ k h. let ne : k ≢ c.loop-step.step = omega arith in rw get_or-set_other (c.loop-step.invariant.1 k h))
-          (rw get_or-set_same c.neighbours.ensures),
+          (rw get_or-set_same (c.neighbours.ensures ∙ neighbours_same (g.S.Sheet.graph c.args.sheet.now) (g.S.Sheet.laws c.args.sheet.now) c.loop-step.step)),
     )
-
-pub invariant-of-result : goal.invariant-of-result
-invariant-of-result g c =
-    let few = (g.S.Sheet.laws c.args.sheet.now).few in
-    (c.loop-step.invariant.0, (omega (arith, few, c.count-count.ensures), tt))
 
 pub returns : goal.returns
 returns g c =
