@@ -9,7 +9,7 @@ use Rattle.orientations.specs.Successors.{Changed, Lower, successor, changed}
 use Rattle.orientations.specs.Theorems.{NextRow, LowerReads}
 use Rattle.orientations.proofs.Raising.{lower_asym}
 use Rattle.orientations.proofs.Levels.{rows_rise}
-use Rattle.orientations.proofs.Comparing.{parts, Then, then-of}
+use Rattle.orientations.proofs.Comparing.{parts, Then, then_of}
 
 pub row_top : (a : ℕ) (o : List ℕ) → row (a ∷ o) (length o) ≡ a
 unfolding row
@@ -29,7 +29,7 @@ module _ (g : Graph) where
   unfolding changed successor
   moves [] s = tt
   moves (a ∷ o) s =
-      go (next_row g o a) (rows_rise g o (parts g a o s).0 a (parts g a o s).1) (successor g o) (then-of g o (parts g a o s).0)
+      go (next_row g o a) (rows_rise g o (parts g a o s).0 a (parts g a o s).1) (successor g o) (then_of g o (parts g a o s).0)
       (moves o (parts g a o s).0)
     where
       go : (r : Option ℕ) → NextRow g o a r → (n : Option (List ℕ)) → Then g o n → Moves o (changed g o) n

@@ -96,10 +96,10 @@ module _ (g : Graph) where
   above_all a o high none (x ∷ c) s (inl h) = none c (parts x c s).0 h
   above_all a o high none (x ∷ c) s (inr h) = high x (rw h.0 (parts x c s).1) h.1
 
-  pub then-of : (o : List ℕ) → Sound g o → Then o (successor g o)
+  pub then_of : (o : List ℕ) → Sound g o → Then o (successor g o)
   unfolding Lower successor
-  then-of [] s = λ c k h. h
-  then-of (a ∷ o) s = go (next_row g o a) (rows_rise g o so a la) (successor g o) (then-of o so)
+  then_of [] s = λ c k h. h
+  then_of (a ∷ o) s = go (next_row g o a) (rows_rise g o so a la) (successor g o) (then_of o so)
     where
       so : Sound g o
       so = (parts a o s).0

@@ -15,7 +15,7 @@ use Rattle.orientations.proofs.Chains.{join, ancestor_is}
 use Rattle.orientations.proofs.Standing.{In}
 use Rattle.orientations.proofs.Counts.{count_le}
 use Rattle.orientations.proofs.Placed.{rooted, places_placed, Placed}
-use Rattle.orientations.proofs.Raising.{LastZero, last_zero_is, lower_is, lower_asym, lower_tra, lower_tri, Ordered, Closed, w_once, in-w, w_in, next, next_closed, next_above, next_least}
+use Rattle.orientations.proofs.Raising.{LastZero, last_zero_is, lower_is, lower_asym, lower_tra, lower_tri, Ordered, Closed, w_once, in_w, w_in, next, next_closed, next_above, next_least}
 
 module _ (g : Graph) (o : List ℕ) (s : Sound g o) where
   -- no step is its own ancestor
@@ -80,7 +80,7 @@ module _ (g : Graph) (o : List ℕ) where
     unrisen : LastZero (W g o) (assignment g (length o) a) None → NextRow g o a None
     unrisen h = (
       mask_ext a (lower_neighbours g (length o))
-          (λ p. same_tests _ _ (l.0 p) (λ e. (later_parts g (length o) a p (h p (in-w (ordered g o s) p e))).1)),
+          (λ p. same_tests _ _ (l.0 p) (λ e. (later_parts g (length o) a p (h p (in_w (ordered g o s) p e))).1)),
       λ c k e.
           let (t, (tw, ft, gt, eq)) = lower_is (W g o) (assignment g (length o) a) (assignment g (length o) c) e in
           both_ways _ ft (h t tw),
@@ -120,7 +120,7 @@ row_total g o s a b la lb =
         → (p : ℕ) → has a p ≡ true → has b p ≡ true
     moves a b l h p e =
         let n = l.0 p e in
-        (later_parts g (length o) b p (sym (h p (in-w (ordered g o s) p n)) ∙ later_from g (length o) a p n e)).1
+        (later_parts g (length o) b p (sym (h p (in_w (ordered g o s) p n)) ∙ later_from g (length o) a p n e)).1
 
 pub rows_ordered : RowsOrdered
 rows_ordered g o s = (

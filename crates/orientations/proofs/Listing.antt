@@ -10,7 +10,7 @@ use Rattle.orientations.specs.Successors.Place.{fresh}
 use Rattle.orientations.specs.Lists.{Apart}
 use Rattle.orientations.specs.Orders.{EachOnce, order}
 use Rattle.orientations.specs.Theorems.{LowerOrders, EndsStand, SuccessorsStand, UpcomingStand, AllListed, NoneLost}
-use Rattle.orientations.proofs.Comparing.{irreflexive, transitive, total, Then, then-of, lowest_sound, lowest_length, lowest_least, highest_sound, highest_length, highest_none, none_highest}
+use Rattle.orientations.proofs.Comparing.{irreflexive, transitive, total, Then, then_of, lowest_sound, lowest_length, lowest_least, highest_sound, highest_length, highest_none, none_highest}
 use Rattle.orientations.proofs.Changes.{changed_lowest}
 use Rattle.orientations.proofs.Corresponding.{rows_correspond}
 use Rattle.orientations.proofs.Counting.{at_most, apart_map, all_map}
@@ -29,7 +29,7 @@ module _ (g : Graph) where
 
   -- of a graph's own orientations: the lowest above, or none above
   next_of : (o : List ℕ) → Orients g o → Next g o (successor g o)
-  next_of o s = go (successor g o) (then-of g o s.sound)
+  next_of o s = go (successor g o) (then_of g o s.sound)
     where
       go : (n : Option (List ℕ)) → Then g o n → Next g o n
       go None h = λ c t k. h c t.sound k

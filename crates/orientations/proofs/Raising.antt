@@ -8,7 +8,7 @@ use Rattle.bits.proofs.Sets.{any_some, any_of}
 use Rattle.bits.proofs.Tests.{same_tests}
 use Rattle.orientations.specs.Placing.{before, behind, times}
 use Rattle.orientations.specs.Assignments.{lower, last_zero, raised, closed}
-use Rattle.orientations.proofs.Standing.{In, in-none, in-cases, in-here, in-later, Once, once_later, once_apart, before_cases, before_of, before_tra, before_self, sides, one_side}
+use Rattle.orientations.proofs.Standing.{In, in_none, in_cases, in_here, in_later, Once, once_later, once_apart, before_cases, before_of, before_tra, before_self, sides, one_side}
 
 -- ---- the rightmost 0
 
@@ -19,23 +19,23 @@ LastZero w f None = (p : ℕ) → In w p → f p ≡ true
 
 pub last_zero_is : (w : List ℕ) (f : ℕ → Bool) → Once w → LastZero w f (last_zero w f)
 unfolding last_zero
-last_zero_is [] f n = λ p h. absurd (in-none p h)
+last_zero_is [] f n = λ p h. absurd (in_none p h)
 last_zero_is (q ∷ w) f n = go (last_zero w f) (last_zero_is w f (once_later q w n)) (f q) refl
   where
     go : (o : Option ℕ) → LastZero w f o → (b : Bool) → f q ≡ b
         → LastZero (q ∷ w) f (elim o [ Some j ↦ Some j | None ↦ elim b [ true ↦ None | false ↦ Some q ] ])
     go (Some j) h b e = (
-      in-later q w j h.0,
+      in_later q w j h.0,
       h.1,
       λ p k.
           let apart = once_apart q w n j h.0 in
-          elim (in-cases q w p k) [
+          elim (in_cases q w p k) [
             | inl s ↦ inl (before_of j q w p apart (inl s))
             | inr s ↦ elim (h.2 p s) [ inl d ↦ inl (before_of j q w p apart (inr d)) | inr d ↦ inr d ]
           ],
     )
-    go None h true e = λ p k. elim (in-cases q w p k) [ inl s ↦ rw s at e | inr s ↦ h p s ]
-    go None h false e = (in-here q w, e, λ p k. elim (in-cases q w p k) [ inl s ↦ inr (inl (sym s)) | inr s ↦ inr (inr (h p s)) ])
+    go None h true e = λ p k. elim (in_cases q w p k) [ inl s ↦ rw s at e | inr s ↦ h p s ]
+    go None h false e = (in_here q w, e, λ p k. elim (in_cases q w p k) [ inl s ↦ inr (inl (sym s)) | inr s ↦ inr (inr (h p s)) ])
 
 -- ---- the lower of two assignments
 
@@ -53,13 +53,13 @@ skip q w f f' e = rw e (same (f' q))
 
 pub lower_of : (w : List ℕ) (f f' : ℕ → Bool) (t : ℕ) → Splits w f f' t → lower w f f' ≡ true
 unfolding lower
-lower_of [] f f' t h = absurd (in-none t h.0)
+lower_of [] f f' t h = absurd (in_none t h.0)
 lower_of (q ∷ w) f f' t (i, x, y, e) =
     elim (cases_eq q t) [
       | inl s ↦ rw s (rw (x, y))
       | inr s ↦
           skip q w f f' (e q (before_of t q w q s (inl refl)))
-          ∙ lower_of w f f' t (elim (in-cases q w t i) [ inl k ↦ absurd (s k) | inr k ↦ k ], x, y, λ p k. e p (before_of t q w p s (inr k)))
+          ∙ lower_of w f f' t (elim (in_cases q w t i) [ inl k ↦ absurd (s k) | inr k ↦ k ], x, y, λ p k. e p (before_of t q w p s (inr k)))
     ]
 
 pub lower_is : (w : List ℕ) (f f' : ℕ → Bool) → lower w f f' ≡ true → (t : ℕ) × Splits w f f' t
@@ -69,14 +69,14 @@ lower_is (q ∷ w) f f' e = go (f q) (f' q) refl refl e (λ h. lower_is w f f' h
   where
     later : f q ≡ f' q → (t : ℕ) × Splits w f f' t → (t : ℕ) × Splits (q ∷ w) f f' t
     later e (t, (i, x, y, h)) =
-        (t, (in-later q w t i, x, y, λ p k. elim (before_cases t q w p k).1 [ inl s ↦ rw s at e | inr s ↦ h p s ]))
+        (t, (in_later q w t i, x, y, λ p k. elim (before_cases t q w p k).1 [ inl s ↦ rw s at e | inr s ↦ h p s ]))
 
     go : (b c : Bool) → f q ≡ b → f' q ≡ c → cond (beq b c) (lower w f f') c ≡ true → (lower w f f' ≡ true → (t : ℕ) × Splits w f f' t)
         → (t : ℕ) × Splits (q ∷ w) f f' t
     go true true x y e r = later (x ∙ sym y) (r e)
     go false false x y e r = later (x ∙ sym y) (r e)
     go true false x y e r = absurd (false≢true e)
-    go false true x y e r = (q, (in-here q w, x, y, λ p k. absurd ((before_cases q q w p k).0 refl)))
+    go false true x y e r = (q, (in_here q w, x, y, λ p k. absurd ((before_cases q q w p k).0 refl)))
 
 -- not each is lower than the other
 pub lower_asym : (w : List ℕ) (f f' : ℕ → Bool) → lower w f f' ≡ true → lower w f' f ≡ true → ⊥
@@ -110,11 +110,11 @@ lower_tra (q ∷ w) f f' h d e = go (f q) (f' q) (h q) d e (lower_tra w f f' h)
 -- of two assignments one is the lower, or they agree at every place
 pub lower_tri : (w : List ℕ) (f f' : ℕ → Bool) → (lower w f f' ≡ true) ⊎ ((lower w f' f ≡ true) ⊎ ((p : ℕ) → In w p → f p ≡ f' p))
 unfolding lower
-lower_tri [] f f' = inr (inr (λ p h. absurd (in-none p h)))
+lower_tri [] f f' = inr (inr (λ p h. absurd (in_none p h)))
 lower_tri (q ∷ w) f f' = go (f q) (f' q) refl refl (lower_tri w f f')
   where
     agree : f q ≡ f' q → ((p : ℕ) → In w p → f p ≡ f' p) → (p : ℕ) → In (q ∷ w) p → f p ≡ f' p
-    agree e h p k = elim (in-cases q w p k) [ inl s ↦ rw s at e | inr s ↦ h p s ]
+    agree e h p k = elim (in_cases q w p k) [ inl s ↦ rw s at e | inr s ↦ h p s ]
 
     go : (b c : Bool) → f q ≡ b → f' q ≡ c → (lower w f f' ≡ true) ⊎ ((lower w f' f ≡ true) ⊎ ((p : ℕ) → In w p → f p ≡ f' p))
         → (cond (beq b c) (lower w f f') c ≡ true) ⊎ ((cond (beq c b) (lower w f' f) b ≡ true) ⊎ ((p : ℕ) → In (q ∷ w) p → f p ≡ f' p))
@@ -152,8 +152,8 @@ module _ {R : ℕ → ℕ → Bool} {i N : ℕ} {w : List ℕ} (L : Ordered R i 
       elim (cases_Bool (has N p))
       [ inl e ↦ let z = rw e at (L.once p) in omega arith | inr e ↦ let z = rw e at (L.once p) in omega arith ]
 
-  pub in-w : (p : ℕ) → has N p ≡ true → In w p
-  in-w p e = let z = rw e at (L.once p) in omega arith
+  pub in_w : (p : ℕ) → has N p ≡ true → In w p
+  in_w p e = let z = rw e at (L.once p) in omega arith
 
   pub w_in : (p : ℕ) → In w p → has N p ≡ true
   w_in p h = elim (cases_Bool (has N p)) [ inl e ↦ e | inr e ↦ let z = rw e at (L.once p) in absurd (omega arith) ]
@@ -168,7 +168,7 @@ module _ {R : ℕ → ℕ → Bool} {i N : ℕ} {w : List ℕ} (L : Ordered R i 
           | inl h ↦ inl (eqb-true q j h)
           | inr h ↦
               let (x, y) = and_parts (f q) (not (behind j w q)) h in
-              elim (sides j w q (in-w q (cf.0 q x))) [
+              elim (sides j w q (in_w q (cf.0 q x))) [
                 | inl b ↦ inr (b, x)
                 | inr (inl s) ↦ inl s
                 | inr (inr b) ↦ absurd (both_ways (behind j w q) (not-true _ y) b)

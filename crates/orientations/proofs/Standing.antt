@@ -8,34 +8,34 @@ use Rattle.orientations.specs.Placing.{times, holds, before, behind}
 abbrev pub In : List ℕ → ℕ → Type 0
 In w p = 1 ≤ times w p
 
-pub in-none : (p : ℕ) → In [] p → ⊥
+pub in_none : (p : ℕ) → In [] p → ⊥
 unfolding times
-in-none p h = omega arith
+in_none p h = omega arith
 
-pub in-cases : (q : ℕ) (w : List ℕ) (p : ℕ) → In (q ∷ w) p → (q ≡ p) ⊎ In w p
+pub in_cases : (q : ℕ) (w : List ℕ) (p : ℕ) → In (q ∷ w) p → (q ≡ p) ⊎ In w p
 unfolding times
-in-cases q w p h = elim (cases_eq q p) [ inl s ↦ inl s | inr s ↦ let k = rw (ne_eqb q p s) at h in inr (omega arith) ]
+in_cases q w p h = elim (cases_eq q p) [ inl s ↦ inl s | inr s ↦ let k = rw (ne_eqb q p s) at h in inr (omega arith) ]
 
-pub in-here : (q : ℕ) (w : List ℕ) → In (q ∷ w) q
+pub in_here : (q : ℕ) (w : List ℕ) → In (q ∷ w) q
 unfolding times
-in-here q w = rw (eq-eqb q q refl) (omega arith)
+in_here q w = rw (eq-eqb q q refl) (omega arith)
 
-pub in-later : (q : ℕ) (w : List ℕ) (p : ℕ) → In w p → In (q ∷ w) p
+pub in_later : (q : ℕ) (w : List ℕ) (p : ℕ) → In w p → In (q ∷ w) p
 unfolding times
-in-later q w p h = omega arith
+in_later q w p h = omega arith
 
-pub in-holds : (w : List ℕ) (p : ℕ) → In w p → holds w p ≡ true
+pub in_holds : (w : List ℕ) (p : ℕ) → In w p → holds w p ≡ true
 unfolding holds
-in-holds [] p h = absurd (in-none p h)
-in-holds (q ∷ w) p h =
-    elim (in-cases q w p h) [ inl s ↦ or_left _ _ (eq-eqb q p s) | inr s ↦ or_right _ _ (in-holds w p s) ]
+in_holds [] p h = absurd (in_none p h)
+in_holds (q ∷ w) p h =
+    elim (in_cases q w p h) [ inl s ↦ or_left _ _ (eq-eqb q p s) | inr s ↦ or_right _ _ (in_holds w p s) ]
 
 pub holds_in : (w : List ℕ) (p : ℕ) → holds w p ≡ true → In w p
 unfolding holds
 holds_in [] p e = absurd (false≢true e)
 holds_in (q ∷ w) p e =
     elim (or_cases (eqb q p) (holds w p) e)
-    [ inl h ↦ rw (eqb-true q p h) (in-here p w) | inr h ↦ in-later q w p (holds_in w p h) ]
+    [ inl h ↦ rw (eqb-true q p h) (in_here p w) | inr h ↦ in_later q w p (holds_in w p h) ]
 
 -- no step stands in w twice
 abbrev pub Once : List ℕ → Type 0
@@ -84,7 +84,7 @@ before_asym l q p d e = before_self l p (before_tra l p q p d e)
 
 -- of two steps of l one stands before the other
 pub before_tri : (l : List ℕ) (q p : ℕ) → In l q → In l p → (q ≡ p → ⊥) → (before p l q ≡ true) ⊎ (before q l p ≡ true)
-before_tri [] q p i j n = absurd (in-none q i)
+before_tri [] q p i j n = absurd (in_none q i)
 before_tri (x ∷ l) q p i j n =
     elim (cases_eq x q) [
       | inl s ↦ inl (before_of p x l q (λ e. n (sym s ∙ e)) (inl s))
@@ -98,7 +98,7 @@ before_tri (x ∷ l) q p i j n =
     ]
   where
     later : {p : ℕ} → In (x ∷ l) p → (x ≡ p → ⊥) → In l p
-    later {p} h s = elim (in-cases x l p h) [ inl e ↦ absurd (s e) | inr k ↦ k ]
+    later {p} h s = elim (in_cases x l p h) [ inl e ↦ absurd (s e) | inr k ↦ k ]
 
 -- ---- behind
 
@@ -114,7 +114,7 @@ pub behind_in : (j : ℕ) (w : List ℕ) (p : ℕ) → behind j w p ≡ true →
 unfolding behind
 behind_in j [] p e = absurd (false≢true e)
 behind_in j (q ∷ w) p e =
-    in-later q w p
+    in_later q w p
     (elim (cases_eq q j) [
       | inl s ↦ holds_in w p (sym (behind_here j q w p s) ∙ e)
       | inr s ↦ behind_in j w p (sym (behind_later j q w p s) ∙ e)
@@ -122,16 +122,16 @@ behind_in j (q ∷ w) p e =
 
 -- each step of w stands before j, is j, or stands behind j
 pub sides : (j : ℕ) (w : List ℕ) (p : ℕ) → In w p → (before j w p ≡ true) ⊎ ((p ≡ j) ⊎ (behind j w p ≡ true))
-sides j [] p h = absurd (in-none p h)
+sides j [] p h = absurd (in_none p h)
 sides j (q ∷ w) p h =
     elim (cases_eq q j) [
       | inl s ↦
-          elim (in-cases q w p h) [
+          elim (in_cases q w p h) [
             | inl e ↦ inr (inl (sym e ∙ s))
-            | inr k ↦ inr (inr (behind_here j q w p s ∙ in-holds w p k))
+            | inr k ↦ inr (inr (behind_here j q w p s ∙ in_holds w p k))
           ]
       | inr s ↦
-          elim (in-cases q w p h) [
+          elim (in_cases q w p h) [
             | inl e ↦ inl (before_of j q w p s (inl e))
             | inr k ↦
                 elim (sides j w p k) [

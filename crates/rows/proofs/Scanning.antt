@@ -6,16 +6,16 @@ use Rattle.bits.specs.Sets.{has}
 use Rattle.bits.proofs.Tests.{or_swap, eqb_swap, and_true}
 use Rattle.orientations.specs.Assignments.{last_zero, raised}
 use Rattle.orientations.specs.Placing.{holds, behind}
-use Rattle.orientations.proofs.Standing.{In, in-here, in-later, holds_in, Once, once_later, once_apart, behind_here, behind_later}
+use Rattle.orientations.proofs.Standing.{In, in_here, in_later, holds_in, Once, once_later, once_apart, behind_here, behind_later}
 
 -- the places of w from k on have 1, and `ones` holds the steps with 1 that do not stand there
 abbrev pub Scan : List ℕ → (ℕ → Bool) → ℕ → ℕ → Type 0
 Scan w f k ones = (last_zero (drop k w) f ≡ None) × ((p : ℕ) → has ones p ≡ (f p && not (holds (drop k w) p)))
 
-pub in-at : (w : List ℕ) (k : ℕ) → k < length w → In w (get_or w k 0)
-in-at [] k h = absurd (not-suc-le-zero h)
-in-at (x ∷ w) zero h = in-here x w
-in-at (x ∷ w) (suc k) h = in-later x w (get_or w k 0) (in-at w k (omega arith))
+pub in_at : (w : List ℕ) (k : ℕ) → k < length w → In w (get_or w k 0)
+in_at [] k h = absurd (not-suc-le-zero h)
+in_at (x ∷ w) zero h = in_here x w
+in_at (x ∷ w) (suc k) h = in_later x w (get_or w k 0) (in_at w k (omega arith))
 
 once_drop : (k : ℕ) (w : List ℕ) → Once w → Once (drop k w)
 once_drop zero w h = h
@@ -38,7 +38,7 @@ behind_drop : (w : List ℕ) (k p : ℕ) → Once w → k < length w → behind 
 behind_drop [] k p o h = absurd (not-suc-le-zero h)
 behind_drop (x ∷ w) zero p o h = behind_here x x w p refl
 behind_drop (x ∷ w) (suc k) p o h =
-    behind_later (get_or w k 0) x w p (once_apart x w o (get_or w k 0) (in-at w k (omega arith)))
+    behind_later (get_or w k 0) x w p (once_apart x w o (get_or w k 0) (in_at w k (omega arith)))
     ∙ behind_drop w k p (once_later x w o) (omega arith)
 
 pub scan_start : (w : List ℕ) (f : ℕ → Bool) (k ones : ℕ) → length w ≤ k → ((p : ℕ) → has ones p ≡ f p) → Scan w f k ones

@@ -19,7 +19,7 @@ use Rattle.rows.specs.Relations.{leads, rows_of}
 use Rattle.rows.proofs.Adding.{has_with}
 use Rattle.rows.proofs.Growing.{Narrow}
 use Rattle.rows.proofs.Held.{length_rows}
-use Rattle.rows.proofs.Scanning.{Scan, in-at}
+use Rattle.rows.proofs.Scanning.{Scan, in_at}
 
 -- ---- one level
 
@@ -117,7 +117,7 @@ module _ (g : Graph) (rows : List ℕ) (s : ℕ) (few : s ≤ width) where
   unfolding W
   array_place k l =
       let p = get_or (W g o) k 0 in
-      let there : In (W g o) p = in-at (W g o) k l in
+      let there : In (W g o) p = in_at (W g o) k l in
       let most = places_once (ancestor g o) (length o) (length o) (lower_neighbours g (length o)) p in
       elim (cases_Bool (has (lower_neighbours g (length o)) p)) [
         | inl e ↦ let z = neighbour_below g (length o) p e in let long = length_rows rows s in omega arith
