@@ -1,10 +1,11 @@
 -- Laws of masks as sets, and of searches below a bound.
 -- Assumes nothing.
-use Rattle.std.proofs.Common.{◌≡◌, ℕ, zero, suc, ◌+◌, ◌*◌, ◌/◌, ◌%◌, ◌^◌, ◌<◌, ◌≤◌, Bool, true, false, cond, not, ◌&&◌, ◌||◌, eqb, ltb, ◌⊎◌, Some, None, Option, sym, refl, ap, ◌∙◌, ap₂, inl, inr, not-suc-le-zero, mul_comm, pow-suc, div-one, arith}
+use Rattle.std.proofs.Common.{if◌then◌else◌, List, [], ◌∷◌, ◌++◌, ◌≡◌, ℕ, zero, suc, ◌+◌, ◌*◌, ◌/◌, ◌%◌, ◌^◌, ◌<◌, ◌≤◌, Bool, true, false, cond, not, ◌&&◌, ◌||◌, eqb, ltb, ◌⊎◌, Some, None, Option, sym, refl, ap, ◌∙◌, ap₂, inl, inr, not-suc-le-zero, mul_comm, pow-suc, div-one, arith}
 use native.Mathlib.Nat.{div-div-eq-div-mul}
-use Rattle.std.proofs.lemmas.Bool.{true≢false, false≢true, both_ways, not-true, not_from_false, eqb-true, eqb-false, cases_Bool, or_cases, or_left, or_right, or_from, cases_lt, cases_eq, ne_eqb, eq-eqb, lt-ltb, le-ltb, and_left}
-use Rattle.bits.specs.Sets.{width, has, mask_of, inserted, any, first, Lowest}
-use Rattle.bits.proofs.Tests.{same_tests, or_false}
+use Rattle.std.proofs.lemmas.Bool.{true≢false, false≢true, both_ways, not-true, not_from_false, eqb-true, eqb-false, cases_Bool, or_cases, or_left, or_right, or_from, cases_lt, cases_eq, ne_eqb, eq-eqb, lt-ltb, le-ltb, and_left, and_right, not_from_true}
+use Rattle.std.proofs.Math.Bool.{or-false, and-true}
+use Rattle.bits.specs.Sets.{width, has, mask_of, inserted, any, first, Lowest, listed, members_of}
+use Rattle.bits.proofs.Tests.{same_tests}
 
 -- ---- a mask, bit by bit
 
@@ -75,6 +76,14 @@ has_all i f b p =
       | inr h ↦ has_past i f p h ∙ elim (cases_Bool (f p)) [ inl e ↦ absurd (let z = b p e in omega arith) | inr e ↦ sym e ]
     ]
 
+-- the members of a union of masks, whatever the number asked about
+pub has_union : (a b m : ℕ) → a < 2 ^ width → b < 2 ^ width → m ≡ mask_of width (λ q. has a q || has b q) → (q : ℕ)
+    → has m q ≡ (has a q || has b q)
+has_union a b m fits_a fits_b is q = ap (λ (n : ℕ). has n q) is ∙ has_all width _ members q
+  where
+    members : (r : ℕ) → (has a r || has b r) ≡ true → r < width
+    members r e = elim (or_cases (has a r) (has b r) e) [ inl h ↦ has_below width a r fits_a h | inr h ↦ has_below width b r fits_b h ]
+
 -- ---- masks with the same members are equal
 
 digits_same : (a b : ℕ) → a < 2 → b < 2 → eqb a 1 ≡ eqb b 1 → a ≡ b
@@ -126,7 +135,7 @@ mask_more k f room e = mask_ext _ _ (λ q. at q (cases_lt q (suc k)))
         ∙ elim (cases_eq q k) [
           | inl s ↦ or_right (has (mask_of k f) q) (eqb q k) (eq-eqb q k s) ∙ sym (rw s e)
           | inr s ↦
-              ap (λ (b : Bool). has (mask_of k f) q || b) (ne_eqb q k s) ∙ or_false (has (mask_of k f) q)
+              ap (λ (b : Bool). has (mask_of k f) q || b) (ne_eqb q k s) ∙ or-false (has (mask_of k f) q)
               ∙ has_mask k f q (omega arith)
         ]
         ∙ sym (has_mask (suc k) f q h)
@@ -150,22 +159,6 @@ mask_skip k f e = mask_ext _ _ (λ q. at q (cases_lt q (suc k)))
         ]
         ∙ sym (has_mask (suc k) f q h)
     at q (inr h) = has_past k f q (omega arith) ∙ sym (has_past (suc k) f q h)
-
--- past the last number that passes, the bound makes no difference
-pub mask_wider : (n w : ℕ) (f : ℕ → Bool) → n ≤ w → ((p : ℕ) → f p ≡ true → p < n) → mask_of n f ≡ mask_of w f
-mask_wider n w f h b =
-    mask_ext _ _
-    (λ p.
-    elim (cases_lt p n) [
-      | inl l ↦ has_mask n f p l ∙ sym (has_mask w f p (omega arith))
-      | inr g ↦
-          has_past n f p g
-          ∙ elim (cases_lt p w) [
-            | inl l ↦
-                elim (cases_Bool (f p)) [ inl e ↦ absurd (let z = b p e in omega arith) | inr e ↦ sym e ] ∙ sym (has_mask w f p l)
-            | inr g ↦ sym (has_past w f p g)
-          ]
-    ])
 
 -- sets of the same numbers, whatever the bounds and the tests
 pub mask_alike : (i k : ℕ) (f f' : ℕ → Bool) → ((p : ℕ) → p < i → f p ≡ true → (p < k) × (f' p ≡ true))
@@ -256,3 +249,61 @@ first_only i f o h = go o (first i f) h (first_is i f)
           | inl x ↦ absurd (both_ways _ (qh p x) pe)
           | inr x ↦ elim (cases_lt q p) [ inl y ↦ absurd (both_ways _ (ph q y) qe) | inr y ↦ omega arith ]
         ])
+
+-- ---- the numbers that pass, as a list
+
+pub listed_same : (i : ℕ) (f g : ℕ → Bool) → ((q : ℕ) → q < i → f q ≡ g q) → listed i f ≡ listed i g
+unfolding listed
+listed_same zero f g e = refl
+listed_same (suc i) f g e =
+    ap₂ (λ (l : List ℕ) (b : Bool). l ++ (if b then i ∷ [] else [])) (listed_same i f g (λ q h. e q (omega arith))) (e i (omega arith))
+
+-- none passes
+pub listed_none : (i : ℕ) (f : ℕ → Bool) → ((q : ℕ) → q < i → f q ≡ false) → listed i f ≡ []
+unfolding listed
+listed_none zero f e = refl
+listed_none (suc i) f e =
+    ap₂ (λ (l : List ℕ) (b : Bool). l ++ (if b then i ∷ [] else [])) (listed_none i f (λ q h. e q (omega arith))) (e i (omega arith))
+
+-- the lowest comes first, and the others after it
+pub listed_first : (i : ℕ) (f : ℕ → Bool) (p : ℕ) → Lowest i f (Some p) → listed i f ≡ p ∷ listed i (λ q. f q && not (eqb q p))
+unfolding listed
+listed_first zero f p (l, e, n) = absurd (not-suc-le-zero l)
+listed_first (suc i) f p (l, e, n) =
+    elim (cases_eq p i) [
+      | inl s ↦
+          ap₂ (λ (l : List ℕ) (b : Bool). l ++ (if b then i ∷ [] else [])) (listed_none i f (λ q h. n q (omega arith))) (ap f (sym s) ∙ e)
+          ∙ ap (λ (n : ℕ). n ∷ []) (sym s)
+          ∙ sym
+          (ap₂ (λ (l : List ℕ) (b : Bool). p ∷ (l ++ (if b then i ∷ [] else [])))
+          (listed_none i (λ q. f q && not (eqb q p)) (λ q h. and_left (f q) _ (n q (omega arith))))
+          (and_right (f i) _ (not_from_true (eqb i p) (eq-eqb i p (sym s)))))
+      | inr s ↦
+          ap₂ (λ (l : List ℕ) (b : Bool). l ++ (if b then i ∷ [] else [])) (listed_first i f p (omega arith, e, n))
+          (sym (ap (λ (t : Bool). f i && not t) (ne_eqb i p (λ z. s (sym z))) ∙ and-true (f i)))
+    ]
+
+-- without its lowest member, a set has the others
+pub members_step : (m p : ℕ) → Lowest width (has m) (Some p)
+    → members_of m ≡ p ∷ members_of (mask_of width (λ q. has m q && not (eqb q p)))
+members_step m p low =
+    listed_first width (has m) p low ∙ ap (λ (l : List ℕ). p ∷ l) (listed_same width _ _ (λ q h. sym (has_mask width (λ q. has m q && not (eqb q p)) q h)))
+
+-- ---- sets of numbers with room in a mask
+
+-- what a set holds has room in a mask
+abbrev pub Narrow : ℕ → Type 0
+Narrow m = (q : ℕ) → has m q ≡ true → q < width
+
+pub narrow : (m : ℕ) → m < 2 ^ width → Narrow m
+narrow m fits q e = has_below width m q fits e
+
+pub mask_narrow : (m : ℕ) (f : ℕ → Bool) → m ≡ mask_of width f → Narrow m
+mask_narrow m f is q e = (has_in width f q (ap (λ (x : ℕ). has x q) (sym is) ∙ e)).0
+
+-- a number with room in a mask is put in
+pub has_with : (m i q : ℕ) → Narrow m → i < width → has (inserted m i) q ≡ (has m q || eqb q i)
+has_with m i q n few = has_all width _ members q
+  where
+    members : (r : ℕ) → (has m r || eqb r i) ≡ true → r < width
+    members r e = elim (or_cases (has m r) (eqb r i) e) [ inl h ↦ n r h | inr h ↦ let z = eqb-true r i h in omega arith ]

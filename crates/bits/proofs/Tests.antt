@@ -1,6 +1,6 @@
 -- Laws of tests.
 -- Assumes nothing.
-use Rattle.std.proofs.Common.{◌≡◌, ℕ, ◌+◌, Bool, true, false, not, ◌&&◌, ◌||◌, eqb, ltb, sym, refl, ◌∙◌, inl, inr, arith}
+use Rattle.std.proofs.Common.{◌≡◌, ℕ, ◌+◌, Bool, true, false, eqb, ltb, sym, refl, ◌∙◌, inl, inr, arith}
 use Rattle.std.proofs.lemmas.Bool.{cases_eq, eq-eqb, ne_eqb}
 use Rattle.std.proofs.lemmas.Bool.Decides.{nat_tests}
 
@@ -10,22 +10,6 @@ same_tests true c h k = sym (h refl)
 same_tests false true h k = k refl
 same_tests false false h k = refl
 
-pub or_false : (b : Bool) → (b || false) ≡ b
-or_false true = refl
-or_false false = refl
-
-pub or_swap : (a b : Bool) → (a || b) ≡ (b || a)
-or_swap true true = refl
-or_swap true false = refl
-or_swap false true = refl
-or_swap false false = refl
-
-pub and_swap : (a b : Bool) → (a && b) ≡ (b && a)
-and_swap true true = refl
-and_swap true false = refl
-and_swap false true = refl
-and_swap false false = refl
-
 pub eqb_swap : (i j : ℕ) → eqb i j ≡ eqb j i
 eqb_swap i j =
     elim (cases_eq i j) [
@@ -33,18 +17,10 @@ eqb_swap i j =
       | inr n ↦ ne_eqb i j n ∙ sym (ne_eqb j i (λ e. n (sym e)))
     ]
 
-pub and_true : (b : Bool) → (b && true) ≡ b
-and_true true = refl
-and_true false = refl
-
 -- what does not pass is false
 pub not_so : (b : Bool) → (b ≡ true → ⊥) → b ≡ false
 not_so true h = absurd (h refl)
 not_so false h = refl
-
-pub not_not : (b : Bool) → not (not b) ≡ b
-not_not true = refl
-not_not false = refl
 
 -- a bound that is one higher lets in one number more
 pub ltb_beside : (r p : ℕ) → (r ≡ p → ⊥) → ltb r p ≡ ltb r (p + 1)

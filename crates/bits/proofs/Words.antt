@@ -7,8 +7,9 @@ use lib.Count.{count_trailing_zeros, under}
 use lib.Pow.{pow-lt}
 use Rattle.std.proofs.lemmas.Bool.{both_ways, not-true, not_from_false, and_from, and_left, and_right, eq-eqb, ne_eqb, lt-ltb, le-ltb, cases_Bool, cases_lt, cases_eq}
 use Rattle.std.proofs.lemmas.Nat.{one_shl, or_lt, and_le_l}
+use Rattle.std.proofs.Math.Bool.{or-false, and-true}
 use Rattle.bits.specs.Sets.{has, mask_of, first, Lowest}
-use Rattle.bits.proofs.Tests.{same_tests, or_false, and_true}
+use Rattle.bits.proofs.Tests.{same_tests}
 use Rattle.bits.proofs.Sets.{has_low, has_suc, has_none, mask_ext, mask_is, mask_same, first_only}
 
 -- ---- a & b, a | b
@@ -103,11 +104,11 @@ without_word w m p hm h =
 -- a number that the words have no room for makes no difference
 pub with_past : (w m p : ℕ) → m < 2 ^ w → w ≤ p → m ≡ mask_of w (λ q. has m q || eqb q p)
 with_past w m p hm h =
-    mask_is w _ _ hm (λ q l. sym (ap (λ (t : Bool). has m q || t) (ne_eqb q p (λ e. omega arith)) ∙ or_false (has m q)))
+    mask_is w _ _ hm (λ q l. sym (ap (λ (t : Bool). has m q || t) (ne_eqb q p (λ e. omega arith)) ∙ or-false (has m q)))
 
 pub without_past : (w m p : ℕ) → m < 2 ^ w → w ≤ p → m ≡ mask_of w (λ q. has m q && not (eqb q p))
 without_past w m p hm h =
-    mask_is w _ _ hm (λ q l. sym (ap (λ (t : Bool). has m q && not t) (ne_eqb q p (λ e. omega arith)) ∙ and_true (has m q)))
+    mask_is w _ _ hm (λ q l. sym (ap (λ (t : Bool). has m q && not t) (ne_eqb q p (λ e. omega arith)) ∙ and-true (has m q)))
 
 -- ---- (1 << i) - 1: the numbers below i
 

@@ -1,93 +1,172 @@
 //! Sets of small numbers, as masks: steps of a sheet, columns of a table.
 #![tactic(auto)]
 
-ghost use Rattle.std.specs.Prelude.{◌≡◌, ℕ, not, ◌&&◌, ◌||◌, Decides, ◌==◌, nat_lt};
-ghost use Rattle.bits.specs.Sets.{width, has, mask_of, inserted, Members, first, Lowest};
-
-/// A set of numbers from 0 to 31: p is in it where bit p is 1.
-pub type Mask = u32;
+ghost use Rattle.std.specs.Prelude.{◌≡◌, ℕ, false, not, ◌&&◌, ◌||◌, ◌↔◌, IsTrue, ◌==◌, nat_lt};
+ghost use Rattle.std.specs.Iterator.{YieldsFirst, item_count};
+ghost use Rattle.bits.specs.Sets.{width, has, mask_of, inserted, members_of, Members, first, Lowest};
 
 /// How many numbers a mask has room for.
 pub const WIDTH: usize = 32;
 
-/// Whether p is in the set. No number above 31 is.
-pub fn member(set: Mask, p: usize) -> bool
-    ensures { result ≡ has set p }
-{
-    p < WIDTH && set & (1 << p) != 0
+/// A set of numbers from 0 to 31, as the bits of a word.
+#[derive(Clone, Copy, Debug, Default, Eq, PartialEq)]
+pub struct Mask {
+    // p is in the set where bit p is 1
+    bits: u32,
 }
 
-/// The set with p in it too. A number above 31 adds nothing.
-pub fn with(set: Mask, p: usize) -> Mask
-    ensures answer { result ≡ inserted set p }
-    ensures members { Members result (λ q. has set q || q == p) }
-{
-    if p >= WIDTH {
-        return set;
+impl Mask {
+    /// The set without members.
+    pub const EMPTY: Mask = Mask { bits: 0 };
+
+    /// Whether there is no member.
+    pub fn is_empty(self) -> bool
+        ensures answer { result ≡ (self.bits == 0) }
+        ensures members { IsTrue result ↔ ((q : ℕ) → has self.bits q ≡ false) }
+    {
+        self.bits == 0
     }
-    set | (1 << p)
-}
 
-/// The set without p.
-pub fn without(set: Mask, p: usize) -> Mask
-    ensures answer { result ≡ mask_of width (λ q. has set q && not (q == p)) }
-    ensures members { Members result (λ q. has set q && not (q == p)) }
-{
-    if p >= WIDTH {
-        return set;
+    /// Whether p is in the set. No number above 31 is.
+    pub fn contains(self, p: usize) -> bool
+        ensures { result ≡ has self.bits p }
+    {
+        p < WIDTH && self.bits & (1 << p) != 0
     }
-    set & !(1 << p)
-}
 
-/// What is in one of two sets or in both.
-pub fn union(a: Mask, b: Mask) -> Mask
-    ensures answer { result ≡ mask_of width (λ q. has a q || has b q) }
-    ensures members { Members result (λ q. has a q || has b q) }
-{
-    a | b
-}
-
-/// What is in both sets.
-pub fn intersection(a: Mask, b: Mask) -> Mask
-    ensures answer { result ≡ mask_of width (λ q. has a q && has b q) }
-    ensures members { Members result (λ q. has a q && has b q) }
-{
-    a & b
-}
-
-/// What is in the first set and not in the second.
-pub fn difference(a: Mask, b: Mask) -> Mask
-    ensures answer { result ≡ mask_of width (λ q. has a q && not (has b q)) }
-    ensures members { Members result (λ q. has a q && not (has b q)) }
-{
-    a & !b
-}
-
-/// Whether two sets have the same members: equal masks, and no others, have.
-pub fn same(a: Mask, b: Mask) -> bool
-    ensures { Decides result ((q : ℕ) → has a q ≡ has b q) }
-{
-    a == b
-}
-
-/// The lowest number in the set; none where the set is empty.
-pub fn lowest(set: Mask) -> Option<usize>
-    ensures answer { result ≡ first width (has set) }
-    ensures lowest { Lowest width (has set) result }
-{
-    if set == 0 {
-        return None;
+    /// The set with p in it too. A number above 31 adds nothing.
+    pub fn with(self, p: usize) -> Mask
+        ensures answer { result.bits ≡ inserted self.bits p }
+        ensures members { Members result.bits (λ q. has self.bits q || q == p) }
+    {
+        if p >= WIDTH {
+            return self;
+        }
+        Mask {
+            bits: self.bits | (1 << p),
+        }
     }
-    Some(set.trailing_zeros() as usize)
+
+    /// The set without p.
+    pub fn without(self, p: usize) -> Mask
+        ensures answer { result.bits ≡ mask_of width (λ q. has self.bits q && not (q == p)) }
+        ensures members { Members result.bits (λ q. has self.bits q && not (q == p)) }
+    {
+        if p >= WIDTH {
+            return self;
+        }
+        Mask {
+            bits: self.bits & !(1 << p),
+        }
+    }
+
+    /// What is in one of two sets or in both.
+    pub fn union(self, other: Mask) -> Mask
+        ensures answer { result.bits ≡ mask_of width (λ q. has self.bits q || has other.bits q) }
+        ensures members { Members result.bits (λ q. has self.bits q || has other.bits q) }
+    {
+        Mask {
+            bits: self.bits | other.bits,
+        }
+    }
+
+    /// What is in both sets.
+    pub fn intersection(self, other: Mask) -> Mask
+        ensures answer { result.bits ≡ mask_of width (λ q. has self.bits q && has other.bits q) }
+        ensures members { Members result.bits (λ q. has self.bits q && has other.bits q) }
+    {
+        Mask {
+            bits: self.bits & other.bits,
+        }
+    }
+
+    /// What is in this set and not in the other.
+    pub fn difference(self, other: Mask) -> Mask
+        ensures answer { result.bits ≡ mask_of width (λ q. has self.bits q && not (has other.bits q)) }
+        ensures members { Members result.bits (λ q. has self.bits q && not (has other.bits q)) }
+    {
+        Mask {
+            bits: self.bits & !other.bits,
+        }
+    }
+
+    /// Whether two sets have the same members: equal masks, and no others, have.
+    pub fn same(self, other: Mask) -> bool
+        ensures { IsTrue result ↔ ((q : ℕ) → has self.bits q ≡ has other.bits q) }
+    {
+        self == other
+    }
+
+    /// The lowest number in the set; none where the set is empty.
+    pub fn lowest(self) -> Option<usize>
+        ensures answer { result ≡ first width (has self.bits) }
+        ensures lowest { Lowest width (has self.bits) result }
+    {
+        if self.is_empty() {
+            return None;
+        }
+        Some(self.bits.trailing_zeros() as usize)
+    }
+
+    /// The set of all numbers below i; of all 32 where i is above 31.
+    pub fn below(i: usize) -> Mask
+        ensures answer { result.bits ≡ mask_of width (λ q. nat_lt q i) }
+        ensures members { Members result.bits (λ q. nat_lt q i) }
+    {
+        if i >= WIDTH {
+            return Mask { bits: !0 };
+        }
+        Mask { bits: (1 << i) - 1 }
+    }
 }
 
-/// The set of all numbers below i; of all 32 where i is above 31.
-pub fn below(i: usize) -> Mask
-    ensures answer { result ≡ mask_of width (λ q. nat_lt q i) }
-    ensures members { Members result (λ q. nat_lt q i) }
-{
-    if i >= WIDTH {
-        return !0;
+/// The set that a word tells: p is in it where bit p is 1.
+impl From<u32> for Mask {
+    ghost from_gives = { λ bits m. m.bits ≡ bits };
+
+    fn from(bits: u32) -> Mask {
+        Mask { bits }
     }
-    (1 << i) - 1
+}
+
+/// The word in which bit p is 1 where p is in the set.
+impl From<Mask> for u32 {
+    ghost from_gives = { λ m bits. bits ≡ m.bits };
+
+    fn from(set: Mask) -> u32 {
+        set.bits
+    }
+}
+
+/// The members of a set, rising.
+#[derive(Clone, Copy, Debug)]
+pub struct IntoIter {
+    // those that are still to come
+    left: Mask,
+}
+
+impl IntoIterator for Mask {
+    type Item = usize;
+
+    type IntoIter = IntoIter;
+
+    ghost into_iter_gives = { λ m it. it.left ≡ m };
+
+    fn into_iter(self) -> IntoIter {
+        IntoIter { left: self }
+    }
+}
+
+impl Iterator for IntoIter {
+    type Item = usize;
+
+    ghost next_gives = { YieldsFirst (λ s. members_of s.left.bits) };
+
+    ghost remaining = { item_count (λ s. members_of s.left.bits) };
+
+    fn next(&mut self) -> Option<usize> {
+        let lowest = self.left.lowest()?;
+        self.left = self.left.without(lowest);
+        Some(lowest)
+    }
 }

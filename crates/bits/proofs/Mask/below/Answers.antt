@@ -4,7 +4,7 @@ use Rattle.std.proofs.lemmas.Nat.{one_shl}
 use Rattle.bits.specs.Sets.{width}
 use Rattle.bits.proofs.Sets.{mask_members}
 use Rattle.bits.proofs.Words.{ones_word, below_past}
-use Rattle.bits.proofs.below.Goals as goal
+use Rattle.bits.proofs.Mask.below.Goals as goal
 
 pub returns-then-i-ge-WIDTH : goal.returns-then-i-ge-WIDTH
 returns-then-i-ge-WIDTH c =
