@@ -1,10 +1,8 @@
 -- What the column sheet's calls do to its list of footprints, over the table xs and the count n.
 -- Assumes nothing.
-use Rattle.std.proofs.Common.{◌≡◌, ℕ, ◌+◌, ◌-◌, ◌<◌, ◌≤◌, Bool, true, cond, not, ◌&&◌, eqb, ltb, List, [], ◌∷◌, ◌++◌, length, get_or, take, set, Some, None, Decides, sym, ap, ◌∙◌, ap₂, inl, inr, arith, length-take-le, get_or-take}
+use Rattle.std.proofs.Common.{◌≡◌, ℕ, ◌+◌, ◌-◌, ◌<◌, ◌≤◌, Bool, true, cond, not, ◌&&◌, eqb, ltb, List, [], ◌∷◌, ◌++◌, length, get_or, take, set, Decides, sym, ap, ◌∙◌, inl, inr, arith, length-take-le, get_or-take}
 use lib.Seq.{take-set-lt, set-get_or}
-use Rattle.std.specs.List.{slice_get}
 use Rattle.std.proofs.lemmas.List.{take_more_set}
-use Rattle.std.proofs.lemmas.Option.{slice_get-get_or, slice_get_past}
 use Rattle.std.proofs.lemmas.Bool.{lt-ltb, ltb-true, eqb-false, ne_eqb, and_parts, and_from, cases_Bool, cond-true, cond-false, not-true, not_from_false}
 use Rattle.sheets.specs.declared.footprints.Footprint.{Footprint}
 use Rattle.sheets.specs.Limits.{limit}
@@ -12,17 +10,6 @@ use Rattle.sheets.specs.Refusals.{settled, Untouched}
 use Rattle.sheets.specs.Footprints.{blank, column_refusal, meeting}
 use Rattle.sheets.specs.Columns.{column_clash, ClashInColumn, add_refusal, after_add, note_refusal, change_latest, after_note}
 use Rattle.sheets.proofs.Meetings.{meets_in_column}
-
--- two different steps clash exactly where their footprints meet
-pub clash_inside : (fs : List Footprint) (i j : ℕ) → i < length fs → j < length fs → (i ≡ j → ⊥)
-    → meeting (get_or fs i blank) (get_or fs j blank) ≡ column_clash fs i j
-clash_inside fs i j a b e = simp (lt-ltb i (length fs) a, lt-ltb j (length fs) b, ne_eqb i j e)
-
--- where the column was refused, the table is as it was
-pub unnoted : (f : Footprint → Footprint) (xs : List Footprint) (i k : ℕ) (y : Footprint)
-    → y ≡ settled k (get_or xs i blank) (f (get_or xs i blank)) → Untouched k xs (set xs i y)
-unnoted f xs i k y e refused =
-    ap (set xs i) (e ∙ ap (λ (b : Bool). cond b (f (get_or xs i blank)) (get_or xs i blank)) (ne_eqb k 0 refused)) ∙ set-get_or xs i blank
 
 -- the calls, over the table xs and the count n
 module _ (xs : List Footprint) (n : ℕ) (whole : length xs ≡ limit) (few : n ≤ limit) where
@@ -61,16 +48,13 @@ module _ (xs : List Footprint) (n : ℕ) (whole : length xs ≡ limit) (few : n 
       ]
       ∙ ap (λ (k : ℕ). settled k (take n xs) (change_latest f (take n xs))) (note_column c p)
 
-  pub footprint_at : (i : ℕ) → i < n → Some (get_or xs i blank) ≡ slice_get (take n xs) i
-  footprint_at i h = ap Some (sym (get_or-take n xs i blank h)) ∙ sym (slice_get-get_or (take n xs) i blank (omega (arith, counted)))
-
-  pub footprint_past : (i : ℕ) → n ≤ i → None ≡ slice_get (take n xs) i
-  footprint_past i h = sym (slice_get_past (take n xs) i (omega (arith, counted)))
-
-  pub table_clash : (i j : ℕ) → i < n → j < n → (i ≡ j → ⊥) → meeting (get_or xs i blank) (get_or xs j blank) ≡ column_clash (take n xs) i j
-  table_clash i j a b e =
-      ap₂ meeting (sym (get_or-take n xs i blank a)) (sym (get_or-take n xs j blank b))
-      ∙ clash_inside (take n xs) i j (omega (arith, counted)) (omega (arith, counted)) e
+  -- the same, where the latest step k is known by the count
+  pub noted_at : (f : Footprint → Footprint) (c k : ℕ) (y : Footprint) → k + 1 ≡ n
+      → y ≡ settled (column_refusal c) (get_or xs k blank) (f (get_or xs k blank)) → take n (set xs k y) ≡ after_note f c (take n xs)
+  noted_at f c k y e changed =
+      let last : k ≡ n - 1 = omega (arith, e) in
+      ap (λ (i : ℕ). take n (set xs i y)) last
+      ∙ noted f c y (omega (arith, e)) (changed ∙ ap (λ (i : ℕ). settled (column_refusal c) (get_or xs i blank) (f (get_or xs i blank))) last)
 
 -- two steps clash exactly where they are different and meet in some column
 pub clash_in_column : (fs : List Footprint) (i j : ℕ) → Decides (column_clash fs i j) (ClashInColumn fs i j)

@@ -1,11 +1,11 @@
 -- What a fence's table holds.
 -- Assumes nothing.
-use Rattle.std.proofs.Common.{◌≡◌, ℕ, ◌<◌, min, max, Bool, true, false, not, ◌&&◌, ◌||◌, eqb, ltb, List, length, get_or, set, replicate, sym, refl, ap, ◌∙◌, ap₂, inl, inr, arith, get_or-set_other, get_or-set_same}
-use Rattle.std.proofs.lemmas.Bool.{eqb-true, lt-ltb, ne_eqb, cases_eq, cases_lt, cases_Bool, and_parts, and_right, or_cases}
+use Rattle.std.proofs.Common.{◌≡◌, ℕ, ◌<◌, ◌≤◌, min, max, Bool, true, false, not, ◌&&◌, ◌||◌, eqb, ltb, List, length, get_or, set, replicate, sym, refl, ap, ◌∙◌, ap₂, inl, inr, arith, get_or-set_other, get_or-set_same}
+use Rattle.std.proofs.lemmas.Bool.{eqb-true, lt-ltb, le-ltb, ne_eqb, cases_eq, cases_lt, cases_Bool, and_parts, and_left, and_right, or_cases}
 use Rattle.std.proofs.lemmas.List.{get_or_past, get_or-replicate}
 use Rattle.std.proofs.lemmas.Bool.Decides.{nat_tests}
+use Rattle.std.proofs.Math.Bool.{or-false, or_comm, and-true}
 use Rattle.bits.specs.Sets.{width, has, inserted}
-use Rattle.bits.proofs.Tests.{or_false, or_swap}
 use Rattle.bits.proofs.Sets.{has_none, has_mask}
 use Rattle.sheets.specs.Limits.{limit}
 use Rattle.sheets.specs.Graphs.{Graph, Lawful}
@@ -22,10 +22,25 @@ none_fenced i j =
       | inr g ↦ ap (λ (x : ℕ). has x (min i j)) (get_or_past (replicate limit 0) (max i j) 0 g) ∙ has_none (min i j)
     ])
 
+-- ---- the lower steps of a step
+
+pub lower_fenced : (ps : List ℕ) (j q m b : ℕ) → m ≡ get_or ps j 0 → has b q ≡ ltb q j → (has m q && has b q) ≡ (ltb q j && fenced ps j q)
+lower_fenced ps j q m b em eb =
+    elim (cases_lt q j) [
+      | inl l ↦
+          let hi : j ≡ max j q = omega arith in
+          let lo : q ≡ min j q = omega arith in
+          ap₂ (λ (x y : Bool). x && y) (ap₂ has (em ∙ ap (λ (k : ℕ). get_or ps k 0) hi) lo) (eb ∙ lt-ltb q j l)
+          ∙ and-true (has (get_or ps (max j q) 0) (min j q))
+          ∙ sym
+          (ap₂ (λ (x y : Bool). x && (not y && has (get_or ps (max j q) 0) (min j q))) (lt-ltb q j l) (ne_eqb j q (omega arith)))
+      | inr g ↦ and_right (has m q) (has b q) (eb ∙ le-ltb q j g) ∙ sym (and_left (ltb q j) (fenced ps j q) (le-ltb q j g))
+    ]
+
 -- ---- one pair more
 
 pair_swap : (i j p q : ℕ) → is_pair i j p q ≡ is_pair j i p q
-pair_swap i j p q = or_swap (eqb p i && eqb q j) (eqb p j && eqb q i)
+pair_swap i j p q = or_comm (eqb p i && eqb q j) (eqb p j && eqb q i)
 
 pair_at : (lo hi p q : ℕ) → lo < hi → max p q ≡ hi → is_pair lo hi p q ≡ (not (eqb p q) && eqb (min p q) lo)
 pair_at lo hi p q h e = grind (arith, nat_tests)
@@ -53,12 +68,37 @@ module _ (ps : List ℕ) (lo hi m : ℕ) (h : lo < hi) (l : hi < limit) (whole :
             ∙ ap₂ (λ (x : ℕ) (y : Bool). (not (eqb p q) && has (get_or ps x 0) (min p q)) || y) (sym e) (sym (pair_at lo hi p q h e))
         | inr n ↦
             ap (λ (x : ℕ). not (eqb p q) && has x (min p q)) (get_or-set_other ps hi (max p q) m 0 n)
-            ∙ sym (or_false (fenced ps p q)) ∙ ap (λ (x : Bool). fenced ps p q || x) (sym (pair_off lo hi p q h n))
+            ∙ sym (or-false (fenced ps p q)) ∙ ap (λ (x : Bool). fenced ps p q || x) (sym (pair_off lo hi p q h n))
       ]
 
-  -- the same, with the higher step named first
-  pub pair_put_back : (p q : ℕ) → fenced (set ps hi m) p q ≡ (fenced ps p q || is_pair hi lo p q)
-  pair_put_back p q = pair_put p q ∙ ap (λ (x : Bool). fenced ps p q || x) (pair_swap lo hi p q)
+-- two different steps below a bound
+pub apart_below : (i j n : ℕ) → (i ≡ j → ⊥) → i < n → j < n → (not (eqb i j) && ltb i n && ltb j n) ≡ true
+apart_below i j n e a b = simp (ne_eqb i j e, lt-ltb i n a, lt-ltb j n b)
+
+-- the pair of i and j is put into the table, whichever is the higher
+pub pair_added : (ps : List ℕ) (i j m : ℕ) → min i j < max i j → max i j < limit → length ps ≡ limit
+    → m ≡ inserted (get_or ps (max i j) 0) (min i j) → (p q : ℕ)
+    → fenced (set ps (max i j) m) p q ≡ (fenced ps p q || ((not (eqb i j) && ltb i limit && ltb j limit) && is_pair i j p q))
+pair_added ps i j m apart room whole more p q =
+    pair_put ps (min i j) (max i j) m apart room whole more p q
+    ∙ ap₂ (λ (t u : Bool). fenced ps p q || (t && u)) (sym (apart_below i j limit (omega arith) (omega arith) (omega arith)))
+    (elim (cases_lt i j) [
+      | inl l ↦
+          let lo : min i j ≡ i = omega arith in
+          let hi : max i j ≡ j = omega arith in
+          ap₂ (λ (a b : ℕ). is_pair a b p q) lo hi
+      | inr g ↦
+          let lo : min i j ≡ j = omega arith in
+          let hi : max i j ≡ i = omega arith in
+          ap₂ (λ (a b : ℕ). is_pair a b p q) lo hi ∙ pair_swap j i p q
+    ])
+
+-- two different steps of a sheet: the table gains the pair, without more ado
+pub pair_gained : (ps qs : List ℕ) (i j n : ℕ) → (i ≡ j → ⊥) → i < n → j < n → n ≤ limit
+    → ((p q : ℕ) → fenced qs p q ≡ (fenced ps p q || ((not (eqb i j) && ltb i limit && ltb j limit) && is_pair i j p q)))
+    → (p q : ℕ) → fenced qs p q ≡ (fenced ps p q || is_pair i j p q)
+pair_gained ps qs i j n apart a b few added p q =
+    added p q ∙ ap (λ (t : Bool). fenced ps p q || (t && is_pair i j p q)) (apart_below i j limit apart (omega arith) (omega arith))
 
 -- a pair that is fenced adds nothing when it is fenced again
 pub pair_again : (ps qs : List ℕ) (i j : ℕ) → ((p q : ℕ) → fenced qs p q ≡ (fenced ps p q || is_pair i j p q))
@@ -66,7 +106,7 @@ pub pair_again : (ps qs : List ℕ) (i j : ℕ) → ((p q : ℕ) → fenced qs p
 pair_again ps qs i j put old p q =
     put p q
     ∙ elim (cases_Bool (is_pair i j p q)) [
-      | inr no_pair ↦ ap (λ (x : Bool). fenced ps p q || x) no_pair ∙ or_false (fenced ps p q)
+      | inr no_pair ↦ ap (λ (x : Bool). fenced ps p q || x) no_pair ∙ or-false (fenced ps p q)
       | inl pair ↦ let e : fenced ps p q ≡ true = same pair in ap (λ (x : Bool). x || is_pair i j p q) e ∙ sym e
     ]
   where
@@ -88,7 +128,7 @@ pub clash_below : (g : Graph) → Lawful g → (pairs : List ℕ) → ((p q : �
     → (p q : ℕ) → fence_clash g pairs p q ≡ g.clashes p q
 clash_below g laws pairs none p q =
     ap (λ (t : Bool). (ltb p g.steps && ltb q g.steps) && (g.clashes p q || t)) (none p q)
-    ∙ ap (λ (t : Bool). (ltb p g.steps && ltb q g.steps) && t) (or_false (g.clashes p q))
+    ∙ ap (λ (t : Bool). (ltb p g.steps && ltb q g.steps) && t) (or-false (g.clashes p q))
     ∙ elim (cases_Bool (g.clashes p q)) [
       | inl t ↦
           let (a, b) = laws.inside p q t in
@@ -112,7 +152,3 @@ clash_more g ps qs i j hi hj put p q =
   where
     below : is_pair i j p q ≡ true → (ltb p g.steps && ltb q g.steps) ≡ true
     below h = grind (arith, nat_tests)
-
--- two different steps below the count are accepted
-pub pair_accepted : (n i j : ℕ) → (i ≡ j → ⊥) → i < n → j < n → 0 ≡ fence_refusal n i j
-pair_accepted n i j e a b = simp (ne_eqb i j e, lt-ltb i n a, lt-ltb j n b)

@@ -1,3 +1,5 @@
 pub mod Meetings
 pub mod ColumnCalls
 pub mod FencePairs
+pub mod Made
+pub mod ClashTables

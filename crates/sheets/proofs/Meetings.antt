@@ -9,7 +9,7 @@ use Rattle.sheets.specs.Limits.{columns}
 use Rattle.sheets.specs.Footprints.{writes_in, touches, meets_in, meeting, MeetsIn}
 
 -- what a writes of t, the columns that b touches
-pub writes_touched : (a b : Footprint) (t m : ℕ) → Members t (touches b) → Members m (λ q. has a.writes q && has t q)
+pub writes_touched : (a b : Footprint) (t m : ℕ) → Members t (touches b) → Members m (λ q. has a.writes.bits q && has t q)
     → Members m (λ q. writes_in a q && touches b q)
 writes_touched a b t m et em q h = em q h ∙ ap (λ (x : Bool). writes_in a q && x) (et q h)
 

@@ -3,7 +3,8 @@
 use Rattle.std.specs.Prelude.{◌≡◌, ℕ, ◌<◌, ◌≤◌, Bool, true, false, not, ◌&&◌, List, length, get_or, ◌==◌, nat_lt, slice_index_or, refl}
 use Rattle.std.proofs.Common.{ap₂, arith, length-take}
 use Rattle.std.proofs.lemmas.Bool.{ltb-true, eq-eqb, and_parts, and_right, and_left, not_from_true}
-use Rattle.bits.proofs.Tests.{or_swap, and_swap, eqb_swap}
+use Rattle.std.proofs.Math.Bool.{or_comm, and_comm}
+use Rattle.bits.proofs.Tests.{eqb_swap}
 use Rattle.bits.proofs.Sets.{any_same}
 use Rattle.sheets.specs.declared.footprints.Footprint.{Footprint}
 use Rattle.sheets.specs.declared.columns.ColumnSheet.{ColumnSheet}
@@ -21,8 +22,8 @@ symmetric : (fs : List Footprint) (i j : ℕ) → column_clash fs i j ≡ column
 symmetric fs i j =
     let a : Footprint = get_or fs i blank in
     let b : Footprint = get_or fs j blank in
-    ap₂ (λ (x y : Bool). x && y) (and_swap (nat_lt i (length fs)) (nat_lt j (length fs)))
-    (ap₂ (λ (x y : Bool). not x && y) (eqb_swap i j) (any_same columns _ _ (λ c h. or_swap (writes_in a c && touches b c) (writes_in b c && touches a c))))
+    ap₂ (λ (x y : Bool). x && y) (and_comm (nat_lt i (length fs)) (nat_lt j (length fs)))
+    (ap₂ (λ (x y : Bool). not x && y) (eqb_swap i j) (any_same columns _ _ (λ c h. or_comm (writes_in a c && touches b c) (writes_in b c && touches a c))))
 
 inside : (fs : List Footprint) (i j : ℕ) → column_clash fs i j ≡ true → (i < length fs) × (j < length fs)
 inside fs i j h =

@@ -1,5 +1,5 @@
 -- The column sheet, by the list of its steps' footprints.
-use Rattle.std.specs.Prelude.{ℕ, ◌-◌, ◌<◌, Bool, cond, not, ◌&&◌, List, [], ◌∷◌, ◌++◌, length, take, ◌==◌, ◌≢◌, nat_lt, slice_index_or, slice_set}
+use Rattle.std.specs.Prelude.{ℕ, ◌-◌, ◌<◌, Bool, if◌then◌else◌, not, ◌&&◌, List, [], ◌∷◌, ◌++◌, length, take, ◌==◌, ◌≢◌, nat_lt, slice_index_or, slice_set}
 use Rattle.sheets.specs.declared.footprints.Footprint.{Footprint}
 use Rattle.sheets.specs.declared.columns.ColumnSheet.{ColumnSheet}
 use Rattle.sheets.specs.Limits.{limit, columns}
@@ -28,7 +28,7 @@ column_graph fs = record { steps = length fs; clashes = column_clash fs }
 
 -- a step is refused where the limit is reached
 abbrev pub add_refusal : List Footprint → ℕ
-add_refusal fs = cond (nat_lt (length fs) limit) 0 7
+add_refusal fs = if nat_lt (length fs) limit then 0 else 7
 
 -- the footprints after a step was to be added: one more, which touches nothing yet
 abbrev pub after_add : List Footprint → List Footprint
@@ -36,7 +36,7 @@ after_add fs = settled (add_refusal fs) fs (fs ++ (blank ∷ []))
 
 -- a column is refused before any step, and above the last column
 abbrev pub note_refusal : List Footprint → ℕ → ℕ
-note_refusal fs c = cond (length fs == 0) 5 (column_refusal c)
+note_refusal fs c = if length fs == 0 then 5 else column_refusal c
 
 -- the footprints with the latest step's changed by f. change_latest (reading 1) (a ∷ b ∷ []) is a ∷ reading 1 b ∷ []
 abbrev pub change_latest : (Footprint → Footprint) → List Footprint → List Footprint

@@ -3,8 +3,9 @@
 use Rattle.std.specs.Prelude.{◌≡◌, ℕ, ◌<◌, min, max, Bool, true, false, not, ◌&&◌, ◌||◌, List, ◌==◌, nat_lt, slice_index, refl}
 use Rattle.std.proofs.Common.{ap₂, arith}
 use Rattle.std.proofs.lemmas.Bool.{ltb-true, eq-eqb, and_parts, and_right, and_left, or_from, not_from_true}
+use Rattle.std.proofs.Math.Bool.{and_comm}
 use Rattle.bits.specs.Sets.{has}
-use Rattle.bits.proofs.Tests.{and_swap, eqb_swap}
+use Rattle.bits.proofs.Tests.{eqb_swap}
 use Rattle.sheets.specs.Graphs.{Graph, Lawful}
 use Rattle.sheets.specs.Fences.{fenced, fence_clash, fence_graph}
 
@@ -29,7 +30,7 @@ module _ (g : Graph) (pairs : List ℕ) where
     few = below.few;
     irreflexive = λ i. and_right (nat_lt i g.steps && nat_lt i g.steps) _ (or_from (g.clashes i i) (fenced pairs i i) (below.irreflexive i) (fenced_apart pairs i));
     symmetric = λ i j.
-        ap₂ (λ (x y : Bool). x && y) (and_swap (nat_lt i g.steps) (nat_lt j g.steps))
+        ap₂ (λ (x y : Bool). x && y) (and_comm (nat_lt i g.steps) (nat_lt j g.steps))
         (ap₂ (λ (x y : Bool). x || y) (below.symmetric i j) (fenced_swap pairs i j));
     inside = inside;
   }

@@ -1,6 +1,7 @@
 -- A fence, by its table of pairs.
-use Rattle.std.specs.Prelude.{◌≡◌, ℕ, ◌<◌, min, max, Bool, true, cond, not, ◌&&◌, ◌||◌, ◌⊎◌, List, ◌==◌, nat_lt, slice_index}
+use Rattle.std.specs.Prelude.{◌≡◌, ℕ, ◌<◌, min, max, Bool, true, if◌then◌else◌, not, ◌&&◌, ◌||◌, ◌⊎◌, List, ◌==◌, nat_lt, slice_index}
 use Rattle.bits.specs.Sets.{has}
+use Rattle.bits.specs.Tables.{words}
 use Rattle.sheets.specs.declared.fences.Fence.{Fence}
 use Rattle.sheets.specs.Graphs.{Graph}
 
@@ -15,7 +16,7 @@ is_pair i j p q = (p == i && q == j) || (p == j && q == i)
 
 -- a step with itself is refused, then a step that is not below the count n. fence_refusal 3 5 5 is 9, fence_refusal 3 0 3 is 10
 abbrev pub fence_refusal : ℕ → ℕ → ℕ → ℕ
-fence_refusal n i j = cond (i == j) 9 (cond (nat_lt i n && nat_lt j n) 0 10)
+fence_refusal n i j = if i == j then 9 else if nat_lt i n && nat_lt j n then 0 else 10
 
 -- two steps clash when they clash below or their pair is fenced
 abbrev pub fence_clash : Graph → List ℕ → ℕ → ℕ → Bool
@@ -31,11 +32,11 @@ fence_graph g pairs = record { steps = g.steps; clashes = fence_clash g pairs }
 
 -- the pairs of a fence
 abbrev pub pairs_of : {S : Type 0} → Fence S → ℕ → ℕ → Bool
-pairs_of s = fenced s.pairs
+pairs_of s = fenced (words s.pairs.lower)
 
 -- what a fence means, where `meaning` tells what the sheets below mean
 abbrev pub graph_of : {S : Type 0} → (S → Graph) → Fence S → Graph
-graph_of meaning s = fence_graph (meaning s.below) s.pairs
+graph_of meaning s = fence_graph (meaning s.below) (words s.pairs.lower)
 
 -- what a call of fence with the outcome k makes of a relation: as before, and the pair of i and j too where it was accepted.
 -- Gains 0 0 2 none r says that r holds of 0 and 2, of 2 and 0, and of nothing else

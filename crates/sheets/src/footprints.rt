@@ -1,7 +1,8 @@
 //! What a step touches: the columns that it reads and those that it writes.
-ghost use Rattle.std.specs.Prelude.{◌≡◌, ℕ, ◌<◌, Decides};
-ghost use Rattle.bits.specs.Sets.{mask_of};
-ghost use Rattle.sheets.specs.Footprints.{blank, meets_in, meeting, MeetsIn, column_refusal, reading, writing};
+ghost use Rattle.std.specs.Prelude.{◌≡◌, ℕ, ◌<◌, ◌↔◌, IsTrue, if◌then◌else◌, nat_lt, Ok, Err};
+ghost use Rattle.bits.specs.Sets.{width, mask_of};
+ghost use Rattle.sheets.specs.declared.refusals.Refusal.TheVariants.{BadColumn};
+ghost use Rattle.sheets.specs.Footprints.{blank, touches, meets_in, meeting, MeetsIn, column_refusal, reading, writing};
 ghost use Rattle.sheets.specs.Limits.{columns};
 ghost use Rattle.sheets.specs.Refusals.{outcome, settled};
 
@@ -10,12 +11,23 @@ use crate::refusals::Refusal;
 use bits::Mask;
 
 /// What a step touches: two sets of columns.
-#[derive(Clone, Copy, PartialEq, Eq, Debug)]
+#[derive(Clone, Copy, Debug, Eq, PartialEq)]
 pub struct Footprint {
     /// the columns that it reads
     pub reads: Mask,
     /// the columns that it writes
     pub writes: Mask,
+}
+
+// The number of a column that there is. Refused: 8 for a column above 31.
+fn known(column: usize) -> Result<usize, Refusal>
+    ensures { result ≡ (if nat_lt column columns then Ok column else Err BadColumn) }
+{
+    if column < COLUMNS {
+        Ok(column)
+    } else {
+        Err(Refusal::BadColumn)
+    }
 }
 
 impl Footprint {
@@ -24,8 +36,8 @@ impl Footprint {
         ensures { result ≡ blank }
     {
         Footprint {
-            reads: 0,
-            writes: 0,
+            reads: Mask::EMPTY,
+            writes: Mask::EMPTY,
         }
     }
 
@@ -34,10 +46,7 @@ impl Footprint {
         ensures answer { outcome result ≡ column_refusal column }
         ensures after { self.new ≡ settled (column_refusal column) self.old (reading column self.old) }
     {
-        if column >= COLUMNS {
-            return Err(Refusal::BadColumn);
-        }
-        self.reads = bits::with(self.reads, column);
+        self.reads = self.reads.with(known(column)?);
         Ok(())
     }
 
@@ -46,27 +55,31 @@ impl Footprint {
         ensures answer { outcome result ≡ column_refusal column }
         ensures after { self.new ≡ settled (column_refusal column) self.old (writing column self.old) }
     {
-        if column >= COLUMNS {
-            return Err(Refusal::BadColumn);
-        }
-        self.writes = bits::with(self.writes, column);
+        self.writes = self.writes.with(known(column)?);
         Ok(())
+    }
+
+    // The columns that it reads or writes.
+    fn touched(&self) -> Mask
+        ensures { result.bits ≡ mask_of width (touches self.now) }
+    {
+        self.reads.union(self.writes)
     }
 
     /// The columns in which two footprints meet: one writes the column, and the other reads or writes it.
     pub fn meeting_columns(&self, other: &Footprint) -> Mask
-        ensures { result ≡ mask_of columns (meets_in self.now other.now) }
+        ensures { result.bits ≡ mask_of columns (meets_in self.now other.now) }
     {
-        let ours = bits::intersection(self.writes, bits::union(other.reads, other.writes));
-        let theirs = bits::intersection(other.writes, bits::union(self.reads, self.writes));
-        bits::union(ours, theirs)
+        let ours = self.writes.intersection(other.touched());
+        let theirs = other.writes.intersection(self.touched());
+        ours.union(theirs)
     }
 
     /// Whether two footprints meet in some column.
     pub fn meets(&self, other: &Footprint) -> bool
         ensures answer { result ≡ meeting self.now other.now }
-        ensures column { Decides result ((c : ℕ) × (c < columns) × MeetsIn self.now other.now c) }
+        ensures column { IsTrue result ↔ ((c : ℕ) × (c < columns) × MeetsIn self.now other.now c) }
     {
-        self.meeting_columns(other) != 0
+        !self.meeting_columns(other).is_empty()
     }
 }

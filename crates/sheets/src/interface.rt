@@ -23,13 +23,12 @@ pub trait Sheet {
 
 /// The neighbours of a step: the lower-numbered steps that clash with it.
 pub fn neighbours<S: Sheet>(sheet: &S, step: usize) -> Mask
-    ensures { result ≡ neighbours_of (S.Sheet.graph sheet.now) step }
+    ensures { result.bits ≡ neighbours_of (S.Sheet.graph sheet.now) step }
 {
-    let mut found = 0;
-    for other in 0..sheet.count() {
-        // `&` makes one test of the two, so that the loop has one way in its proof
-        if (other < step) & sheet.clash(step, other) {
-            found = bits::with(found, other);
+    let mut found = Mask::EMPTY;
+    for other in 0..step.min(sheet.count()) {
+        if sheet.clash(step, other) {
+            found = found.with(other);
         }
     }
     found

@@ -6,6 +6,7 @@ mod fences;
 mod footprints;
 mod interface;
 mod limits;
+mod pairs;
 mod refusals;
 #[cfg(test)]
 mod tests;
@@ -15,4 +16,5 @@ pub use fences::Fence;
 pub use footprints::Footprint;
 pub use interface::{Sheet, neighbours};
 pub use limits::{COLUMNS, LIMIT};
+pub use pairs::Pairs;
 pub use refusals::Refusal;

@@ -1,46 +1,50 @@
 //! Why a call says no.
-ghost use Rattle.std.specs.Prelude.{◌≡◌};
+ghost use Rattle.std.specs.Prelude.{◌≡◌, Some};
+ghost use Rattle.std.specs.Fmt.{decimal};
 ghost use Rattle.sheets.specs.Refusals.{number_of};
+
+use std::error::Error;
+use std::fmt;
 
 /// The reason for which a call is refused; each has a number.
 #[derive(Clone, Copy, PartialEq, Eq, Debug)]
 pub enum Refusal {
     /// a runbook's text is over 8,192 bytes
-    LongText,
+    LongText = 1,
     /// a byte that is in no word and is no space or line end
-    StrayByte,
+    StrayByte = 2,
     /// a word over 12 bytes
-    LongWord,
+    LongWord = 3,
     /// a line that has none of the four forms, or no line end
-    BadLine,
+    BadLine = 4,
     /// a column is read or written before any step, or a fence line has a step that was not named
-    NoStep,
+    NoStep = 5,
     /// a name is given twice
-    RepeatedName,
+    RepeatedName = 6,
     /// one step more than the limit
-    TooManySteps,
+    TooManySteps = 7,
     /// a word that is no column, or a column above 31
-    BadColumn,
+    BadColumn = 8,
     /// a fence of a step with itself
-    SelfFence,
+    SelfFence = 9,
     /// a step that is not below the count, or a cell that is not below the width
-    OutOfRange,
+    OutOfRange = 10,
     /// next, where no orientation is left
-    NoneLeft,
+    NoneLeft = 11,
     /// look, where the walk stands at no orientation
-    NotStanding,
+    NotStanding = 12,
     /// a buffer that is too short for what is to be written
-    ShortBuffer,
+    ShortBuffer = 13,
     /// bytes that are no walk's bookmark
-    UnsoundBookmark,
+    UnsoundBookmark = 14,
     /// a bookmark of another count or of other clashes
-    ForeignBookmark,
+    ForeignBookmark = 15,
     /// a list that is not each step exactly once and nothing else
-    NotEachOnce,
+    NotEachOnce = 16,
     /// contents of another length than the width
-    WrongWidth,
+    WrongWidth = 17,
     /// a shelf step that drops and raises one mark
-    OpposedMarks,
+    OpposedMarks = 18,
 }
 
 impl Refusal {
@@ -48,25 +52,17 @@ impl Refusal {
     pub fn number(&self) -> u8
         ensures { result ≡ number_of self.now }
     {
-        match self {
-            Refusal::LongText => 1,
-            Refusal::StrayByte => 2,
-            Refusal::LongWord => 3,
-            Refusal::BadLine => 4,
-            Refusal::NoStep => 5,
-            Refusal::RepeatedName => 6,
-            Refusal::TooManySteps => 7,
-            Refusal::BadColumn => 8,
-            Refusal::SelfFence => 9,
-            Refusal::OutOfRange => 10,
-            Refusal::NoneLeft => 11,
-            Refusal::NotStanding => 12,
-            Refusal::ShortBuffer => 13,
-            Refusal::UnsoundBookmark => 14,
-            Refusal::ForeignBookmark => 15,
-            Refusal::NotEachOnce => 16,
-            Refusal::WrongWidth => 17,
-            Refusal::OpposedMarks => 18,
-        }
+        *self as u8
     }
 }
+
+/// A refusal is shown by its number.
+impl fmt::Display for Refusal {
+    ghost output = { λ refusal. Some (decimal (number_of refusal)) };
+
+    fn fmt<W: fmt::Write>(&self, f: &mut fmt::Formatter<W>) -> fmt::Result {
+        write!(f, "{}", self.number())
+    }
+}
+
+impl Error for Refusal {}

@@ -1,5 +1,5 @@
 //! What a column sheet answers as a sheet.
-ghost use Rattle.std.specs.Prelude.{◌≡◌, Decides};
+ghost use Rattle.std.specs.Prelude.{◌≡◌, ◌↔◌, IsTrue};
 ghost use Rattle.sheets.specs.Columns.{footprints, column_graph, ClashInColumn};
 ghost use Rattle.sheets.specs.ColumnLaws.{column_lawful};
 
@@ -12,16 +12,16 @@ impl Sheet for ColumnSheet {
     ghost laws = { column_lawful };
 
     fn count(&self) -> usize {
-        self.count
+        self.steps().len()
     }
 
     fn clash(&self, i: usize, j: usize) -> bool
         ensures answer { result ≡ (column_graph (footprints self.now)).clashes i j }
-        ensures column { Decides result (ClashInColumn (footprints self.now) i j) }
+        ensures column { IsTrue result ↔ ClashInColumn (footprints self.now) i j }
     {
-        if i >= self.count || j >= self.count || i == j {
-            return false;
+        match (self.footprint(i), self.footprint(j)) {
+            (Some(one), Some(other)) => i != j && one.meets(&other),
+            _ => false,
         }
-        self.table[i].meets(&self.table[j])
     }
 }

@@ -1,5 +1,6 @@
 //! The calls that build a column sheet and tell its footprints.
-ghost use Rattle.std.specs.Prelude.{◌≡◌, []};
+ghost use Rattle.std.specs.Prelude.{◌≡◌, ◌+◌, MatchResult, []};
+ghost use Rattle.sheets.specs.declared.refusals.Refusal.TheVariants.{NoStep};
 ghost use Rattle.std.specs.List.{slice_get};
 ghost use Rattle.sheets.specs.Columns.{footprints, add_refusal, after_add, note_refusal, after_note};
 ghost use Rattle.sheets.specs.Footprints.{reading, writing};
@@ -41,11 +42,8 @@ impl ColumnSheet {
         ensures after { footprints self.new ≡ after_note (reading column) column (footprints self.old) }
         ensures same { Untouched (outcome result) self.old.table self.new.table × Untouched (outcome result) self.old.count self.new.count }
     {
-        if self.count == 0 {
-            return Err(Refusal::NoStep);
-        }
-        let latest = &mut self.table[self.count - 1];
-        latest.read(column)
+        let latest = self.latest()?;
+        self.table[latest].read(column)
     }
 
     /// Lets the latest step write a column too. Refused: 5 before any step, then 8 for a column above 31.
@@ -54,20 +52,28 @@ impl ColumnSheet {
         ensures after { footprints self.new ≡ after_note (writing column) column (footprints self.old) }
         ensures same { Untouched (outcome result) self.old.table self.new.table × Untouched (outcome result) self.old.count self.new.count }
     {
-        if self.count == 0 {
-            return Err(Refusal::NoStep);
-        }
-        let latest = &mut self.table[self.count - 1];
-        latest.write(column)
+        let latest = self.latest()?;
+        self.table[latest].write(column)
     }
 
     /// What a step touches; nothing is told of a step that is not below the count.
     pub fn footprint(&self, step: usize) -> Option<Footprint>
         ensures { result ≡ slice_get (footprints self.now) step }
     {
-        if step >= self.count {
-            return None;
-        }
-        Some(self.table[step])
+        self.steps().get(step).copied()
+    }
+
+    // The footprints of the steps, without the room for more.
+    pub(super) fn steps(&self) -> &[Footprint]
+        ensures { result.now ≡ footprints self.now }
+    {
+        &self.table[..self.count]
+    }
+
+    // The number of the latest step. Refused: 5 before any step.
+    fn latest(&self) -> Result<usize, Refusal>
+        ensures { MatchResult result (λ k. k + 1 ≡ self.now.count) (λ e. (e ≡ NoStep) × (self.now.count ≡ 0)) }
+    {
+        self.count.checked_sub(1).ok_or(Refusal::NoStep)
     }
 }

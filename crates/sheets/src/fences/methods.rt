@@ -5,19 +5,20 @@ ghost use Rattle.sheets.specs.Refusals.{outcome, Untouched};
 
 use crate::fences::Fence;
 use crate::interface::Sheet;
-use crate::limits::LIMIT;
+use crate::pairs::Pairs;
 use crate::refusals::Refusal;
 
 impl<S: Sheet> Fence<S> {
     /// A fence without pairs.
+    #[tactic(auto, using(crate::proofs::FencePairs::clash_below))]
     pub fn new(below: S) -> Fence<S>
         ensures sheet { result.below ≡ below }
         ensures pairs { (p q : ℕ) → pairs_of result p q ≡ false }
         ensures clashes { (p q : ℕ) → (graph_of S.Sheet.graph result).clashes p q ≡ (S.Sheet.graph below).clashes p q }
     {
         Fence {
+            pairs: Pairs::none(),
             below,
-            pairs: [0; LIMIT],
         }
     }
 
@@ -37,11 +38,7 @@ impl<S: Sheet> Fence<S> {
         if i >= n || j >= n {
             return Err(Refusal::OutOfRange);
         }
-        if i < j {
-            self.pairs[j] = bits::with(self.pairs[j], i);
-        } else {
-            self.pairs[i] = bits::with(self.pairs[i], j);
-        }
+        self.pairs.add(i, j);
         Ok(())
     }
 

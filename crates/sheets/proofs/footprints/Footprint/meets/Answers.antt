@@ -11,5 +11,5 @@ pub returns : goal.returns
 returns c =
     let a = c.args.self.now in
     let b = c.args.other.now in
-    let e = ap (λ m. not (eqb m 0)) c.meeting_columns.ensures ∙ any_mask columns (meets_in a b) in
+    let e = ap not c.is_empty.ensures.answer ∙ ap (λ m. not (eqb m 0)) c.meeting_columns.ensures ∙ any_mask columns (meets_in a b) in
     record { answer = e; column = Decides-at _ _ e (meets_in_column a b) }
