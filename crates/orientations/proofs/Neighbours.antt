@@ -101,16 +101,3 @@ neighbours_none g laws i h =
       | inl l ↦ sym (neighbour_is g i j l ∙ clash_past g laws i j (inl h))
       | inr l ↦ sym (neighbour_past g i j l)
     ])
-
--- two steps clash where the lower is a neighbour of the higher
-pub clash_up : (g : Graph) → Lawful g → (i j : ℕ) → i < j → has (lower_neighbours g j) i ≡ g.clashes i j
-clash_up g laws i j h = neighbour_is g j i h ∙ laws.symmetric j i
-
-pub clash_down : (g : Graph) → Lawful g → (i j : ℕ) → j ≤ i → has (lower_neighbours g i) j ≡ g.clashes i j
-clash_down g laws i j h =
-    elim (cases_lt j i) [
-      | inl l ↦ neighbour_is g i j l
-      | inr l ↦
-          let e : j ≡ i = omega arith in
-          neighbour_past g i j l ∙ sym (ap (g.clashes i) e ∙ laws.irreflexive i)
-    ]

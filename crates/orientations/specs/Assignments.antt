@@ -1,6 +1,6 @@
 -- The assignments of one step over an orientation of the steps below it: which is lower, and the next one.
 -- An assignment is a test on steps: f p is true where it has 1 at p.
-use Rattle.std.specs.Prelude.{◌≡◌, ℕ, Bool, true, false, cond, not, ◌&&◌, ◌||◌, List, [], ◌∷◌, length, Some, None, Option, ◌==◌}
+use Rattle.std.specs.Prelude.{◌≡◌, ℕ, Bool, true, false, if◌then◌else◌, not, ◌&&◌, ◌||◌, List, [], ◌∷◌, length, Some, None, Option, ◌==◌}
 use Rattle.std.specs.Bool.{beq}
 use Rattle.bits.specs.Sets.{has, mask_of, any}
 use Rattle.sheets.specs.Graphs.{Graph}
@@ -10,7 +10,7 @@ use Rattle.orientations.specs.Rows.{assignment, ancestor, lower_neighbours}
 -- whether f is lower than f': it has 0 at the first place of w where they differ
 unfoldable pub lower : List ℕ → (ℕ → Bool) → (ℕ → Bool) → Bool
 lower [] f f' = false
-lower (p ∷ w) f f' = cond (beq (f p) (f' p)) (lower w f f') (f' p)
+lower (p ∷ w) f f' = if beq (f p) (f' p) then lower w f f' else f' p
 
 -- the step at the rightmost place of w where f has 0
 unfoldable pub last_zero : List ℕ → (ℕ → Bool) → Option ℕ

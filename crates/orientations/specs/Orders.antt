@@ -1,5 +1,5 @@
 -- Orders of the steps, the order of an orientation, and the orientation of an order.
-use Rattle.std.specs.Prelude.{◌≡◌, ℕ, zero, suc, true, cond, ◌&&◌, List, [], ◌∷◌, length, nat_lt}
+use Rattle.std.specs.Prelude.{◌≡◌, ℕ, zero, suc, true, if◌then◌else◌, ◌&&◌, List, [], ◌∷◌, length, nat_lt}
 use Rattle.bits.specs.Sets.{has, mask_of}
 use Rattle.sheets.specs.Graphs.{Graph}
 use Rattle.orientations.specs.Placing.{places, times, before}
@@ -7,7 +7,7 @@ use Rattle.orientations.specs.Rows.{arrow, lower_neighbours}
 
 -- l has each of the steps below n once, and nothing else
 abbrev pub EachOnce : ℕ → List ℕ → Type 0
-EachOnce n l = (p : ℕ) → times l p ≡ cond (nat_lt p n) 1 0
+EachOnce n l = (p : ℕ) → times l p ≡ (if nat_lt p n then 1 else 0)
 
 module _ (g : Graph) where
   -- the order of the orientation o: of the unplaced steps with no arrow from an unplaced step, the lowest, and so on

@@ -1,5 +1,5 @@
 -- Steps placed one after the other, and where a step stands in such a list.
-use Rattle.std.specs.Prelude.{ℕ, zero, suc, ◌+◌, Bool, false, cond, not, ◌&&◌, ◌||◌, List, [], ◌∷◌, Some, None, Option, ◌==◌}
+use Rattle.std.specs.Prelude.{ℕ, zero, suc, ◌+◌, Bool, false, if◌then◌else◌, not, ◌&&◌, ◌||◌, List, [], ◌∷◌, Some, None, Option, ◌==◌}
 use Rattle.bits.specs.Sets.{has, mask_of, any, first}
 
 -- a candidate for the next place, where U holds the steps not yet placed and R q p says that q leads to p: p is not yet placed, and
@@ -21,7 +21,7 @@ places R i (suc k) U =
 -- how often p stands in w
 unfoldable pub times : List ℕ → ℕ → ℕ
 times [] p = 0
-times (q ∷ w) p = cond (q == p) 1 0 + times w p
+times (q ∷ w) p = (if q == p then 1 else 0) + times w p
 
 -- whether p stands in w
 unfoldable pub holds : List ℕ → ℕ → Bool
@@ -36,4 +36,4 @@ before j (q ∷ w) p = not (q == j) && (q == p || before j w p)
 -- whether p stands in w behind the first j. behind 0 (0 ∷ 1 ∷ 2 ∷ []) 1 is true
 unfoldable pub behind : ℕ → List ℕ → ℕ → Bool
 behind j [] p = false
-behind j (q ∷ w) p = cond (q == j) (holds w p) (behind j w p)
+behind j (q ∷ w) p = if q == j then holds w p else behind j w p

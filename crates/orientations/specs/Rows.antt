@@ -1,7 +1,7 @@
 -- Orientations as they are held: a row for each step, in a list with the highest step first, so that a ∷ o adds step `length o` with
 -- the row a to the orientation o of the steps below it. The row of a step is the set of the neighbours that the step runs before;
 -- whatever else is in it counts for nothing.
-use Rattle.std.specs.Prelude.{◌≡◌, ℕ, Bool, true, false, cond, not, ◌&&◌, ◌||◌, List, [], ◌∷◌, length, ◌==◌, nat_lt}
+use Rattle.std.specs.Prelude.{◌≡◌, ℕ, Bool, true, false, if◌then◌else◌, not, ◌&&◌, ◌||◌, List, [], ◌∷◌, length, ◌==◌, nat_lt}
 use Rattle.bits.specs.Sets.{has, mask_of, any}
 use Rattle.sheets.specs.Graphs.{Graph}
 use Rattle.orientations.specs.Arrows.{Chain, Acyclic}
@@ -14,12 +14,12 @@ lower_neighbours g i = mask_of i (g.clashes i)
 -- the row of step k; 0 where o has none
 unfoldable pub row : List ℕ → ℕ → ℕ
 row [] k = 0
-row (a ∷ o) k = cond (k == length o) a (row o k)
+row (a ∷ o) k = if k == length o then a else row o k
 
 -- the rows of the steps below k
 unfoldable pub under : List ℕ → ℕ → List ℕ
 under [] k = []
-under (a ∷ o) k = cond (nat_lt k (length (a ∷ o))) (under o k) (a ∷ o)
+under (a ∷ o) k = if nat_lt k (length (a ∷ o)) then under o k else (a ∷ o)
 
 -- R, which tells what leads where among the steps below i, with step i added to it, where `earlier` run before i and i runs before
 -- `later`. What is earlier, and what leads there, comes to lead into i; i comes to lead out to what is later, and to where that

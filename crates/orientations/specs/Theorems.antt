@@ -1,7 +1,7 @@
 -- What is proved of orientations, in the subject's words. Each statement stands on the contract of a function of this crate.
-use Rattle.std.specs.Prelude.{◌≡◌, ℕ, ◌<◌, ◌≤◌, Bool, true, cond, ◌⊎◌, ◌↔◌, List, [], ◌∷◌, length, Some, None, Decides, Option, ◌≢◌, slice_index_or}
+use Rattle.std.specs.Prelude.{◌≡◌, ℕ, ◌<◌, ◌≤◌, Bool, true, if◌then◌else◌, ◌⊎◌, ◌↔◌, List, [], ◌∷◌, length, Some, None, IsTrue, Option, ◌≢◌, slice_index_or}
 use Rattle.bits.specs.Sets.{has}
-use Rattle.sheets.specs.Graphs.{Graph, Lawful}
+use Rattle.sheets.specs.Graphs.{Graph, Lawful, neighbours_of}
 use Rattle.orientations.specs.Arrows.{Chain, Orientation}
 use Rattle.orientations.specs.Placing.{times, before}
 use Rattle.orientations.specs.Rows.{row, under, arrow, ancestor, Sound, Orients, Legal, lower_neighbours}
@@ -21,9 +21,13 @@ RowsCorrespond =
     × ((R : ℕ → ℕ → Bool) → Orientation g R → (o : List ℕ) × Orients g o × ((q p : ℕ) → arrow g o q p ≡ R q p))
     × ((o p : List ℕ) → Orients g o → Orients g p → ((q r : ℕ) → arrow g o q r ≡ arrow g p q r) → o ≡ p)
 
+-- under the laws of a sheet, the neighbours that it tells, a set of numbers below 32, are those of the theory, a set without a bound
+abbrev pub NeighboursAgree : Type 0
+NeighboursAgree = (g : Graph) → Lawful g → (i : ℕ) → neighbours_of g i ≡ lower_neighbours g i
+
 -- `ancestor` tells where a chain of arrows leads
 abbrev pub AncestorsTell : Type 0
-AncestorsTell = (g : Graph) (o : List ℕ) (q p : ℕ) → Decides (ancestor g o q p) (Chain (arrow g o) q p)
+AncestorsTell = (g : Graph) (o : List ℕ) (q p : ℕ) → IsTrue (ancestor g o q p) ↔ Chain (arrow g o) q p
 
 -- with one row more the rows hold an orientation of one step more exactly when those below hold one and the row is legal over them
 abbrev pub LegalAdds : Type 0
@@ -35,7 +39,7 @@ LegalAdds = (g : Graph) (a : ℕ) (o : List ℕ) → Sound g (a ∷ o) ↔ (Soun
 abbrev pub W_lists : Type 0
 W_lists =
     (g : Graph) (o : List ℕ) → Sound g o
-    → ((p : ℕ) → times (W g o) p ≡ cond (has (lower_neighbours g (length o)) p) 1 0)
+    → ((p : ℕ) → times (W g o) p ≡ (if has (lower_neighbours g (length o)) p then 1 else 0))
     × ((q p : ℕ) → has (lower_neighbours g (length o)) q ≡ true → has (lower_neighbours g (length o)) p ≡ true → Chain (arrow g o) q p
     → before p (W g o) q ≡ true)
 

@@ -2,13 +2,15 @@
 //! The definitions are in `specs/`. Each function here carries theorems about them in its contract, and does nothing else.
 #![tactic(auto)]
 
-ghost use Rattle.orientations.specs.Theorems.{RowsCorrespond, AncestorsTell, LegalAdds, W_lists, RowsOrdered, RowsRise, RowsEnd, LowerOrders, LowerReads, EndsStand, SuccessorsStand, AllListed, NoneLost, UpcomingStand, ListsAlike, OrdersFollow, OrdersOriented};
+ghost use Rattle.orientations.specs.Theorems.{RowsCorrespond, NeighboursAgree, AncestorsTell, LegalAdds, W_lists, RowsOrdered, RowsRise, RowsEnd, LowerOrders, LowerReads, EndsStand, SuccessorsStand, AllListed, NoneLost, UpcomingStand, ListsAlike, OrdersFollow, OrdersOriented};
 ghost use Rattle.orientations.specs.Worked.{WorkedOrders};
 
-/// Rows and orientations correspond one to one; the ancestors that are computed are those that chains of arrows lead from; one
-/// step more keeps an orientation acyclic exactly when its assignment is legal.
+/// Rows and orientations correspond one to one; the neighbours that they speak of are those that a sheet tells; the ancestors
+/// that are computed are those that chains of arrows lead from; one step more keeps an orientation acyclic exactly when its
+/// assignment is legal.
 pub fn rows_hold_orientations()
     ensures correspond { RowsCorrespond }
+    ensures neighbours { NeighboursAgree }
     ensures ancestors { AncestorsTell }
     ensures legal { LegalAdds }
 {}
