@@ -1,18 +1,27 @@
 -- Rows held in an array, and the relations of the steps below a number, step by step.
 -- Assumes nothing.
-use Rattle.std.proofs.Common.{◌≡◌, ℕ, zero, suc, ◌+◌, ◌<◌, ◌≤◌, Bool, false, List, ◌∷◌, length, get_or, replicate, sym, refl, ap, ◌∙◌, subst, ap₂, inl, inr, not-suc-le-zero, add-one, arith}
+use Rattle.std.proofs.Common.{◌≡◌, ℕ, zero, suc, ◌+◌, ◌<◌, ◌≤◌, Bool, false, List, ◌∷◌, length, get_or, take, replicate, sym, refl, ap, ◌∙◌, subst, ap₂, inl, inr, not-suc-le-zero, add-one, arith, length-take, get_or-take}
 use mathlib.Core.Path.{fun_ext}
 use lib.ListN.{length-replicate}
 use Rattle.std.proofs.lemmas.List.{get_or_past, get_or-replicate}
 use Rattle.std.proofs.lemmas.Bool.{cases_eq, cases_lt}
-use Rattle.bits.specs.Sets.{has}
-use Rattle.bits.proofs.Sets.{has_none}
+use Rattle.std.proofs.Math.ListN.{get_or-map}
+use Rattle.bits.specs.declared.Mask.{Mask}
+use Rattle.bits.specs.Tables.{words}
 use Rattle.orientations.specs.Rows.{assignment, earlier, Within, AllWithin, lower_neighbours}
 use Rattle.orientations.proofs.Neighbours.{later_none, earlier_none}
 use Rattle.sheets.specs.Graphs.{Graph}
-use Rattle.rows.specs.Relations.{leads, rows_of}
+use Rattle.rows.specs.Relations.{rows_of}
 
 -- ---- rows
+
+-- the word of an entry of a table of sets
+pub word_at : (xs : List Mask) (i : ℕ) → (get_or xs i (record { bits = 0 })).bits ≡ get_or (words xs) i 0
+word_at xs i = sym (get_or-map (λ (m : Mask). m.bits) xs i (record { bits = 0 }))
+
+-- the same for the first n entries
+pub word_in : (xs : List Mask) (n i : ℕ) → i < length (take n xs) → (get_or (take n xs) i (record { bits = 0 })).bits ≡ get_or (words xs) i 0
+word_in xs n i h = ap (λ (m : Mask). m.bits) (get_or-take n xs i (record { bits = 0 }) (omega (arith, length-take n xs))) ∙ word_at xs i
 
 pub length_rows : (xs : List ℕ) (n : ℕ) → length (rows_of xs n) ≡ n
 unfolding rows_of
@@ -22,6 +31,14 @@ length_rows xs (suc n) = ap suc (length_rows xs n)
 pub rows_more : (xs : List ℕ) (n : ℕ) → rows_of xs (n + 1) ≡ get_or xs n 0 ∷ rows_of xs n
 unfolding rows_of
 rows_more xs n = ap (rows_of xs) (add-one n)
+
+-- every entry of an empty table is empty
+pub blank : (n k : ℕ) → ◌≡◌ {A = ℕ} (get_or (replicate n 0) k 0) 0
+blank n k =
+    elim (cases_lt k n) [
+      | inl l ↦ get_or-replicate n k 0 0 l
+      | inr l ↦ get_or_past (replicate n 0) k 0 (simp length-replicate l)
+    ]
 
 -- rows that agree below n
 pub rows_same : (xs ys : List ℕ) (n : ℕ) → ((k : ℕ) → k < n → get_or xs k 0 ≡ get_or ys k 0) → rows_of xs n ≡ rows_of ys n
@@ -49,28 +66,20 @@ within_at g xs (suc n) h k l =
 
 -- ---- relations
 
--- in an empty table nothing leads anywhere
-pub blank_leads : (n q p : ℕ) → leads (replicate n 0) q p ≡ false
-blank_leads n q p =
-    elim (cases_lt p n) [
-      | inl l ↦ ap (λ (x : ℕ). has x q) (get_or-replicate n p 0 0 l) ∙ has_none q
-      | inr l ↦ ap (λ (x : ℕ). has x q) (get_or_past (replicate n 0) p 0 (simp length-replicate l)) ∙ has_none q
-    ]
-
 -- H is a relation on the steps that have rows, to which F adds one step, and a step without neighbours nothing
 module _ (g : Graph) (F : (ℕ → ℕ → Bool) → ℕ → (ℕ → Bool) → (ℕ → Bool) → ℕ → ℕ → Bool) (H : List ℕ → ℕ → ℕ → Bool)
     (adds : (a : ℕ) (o : List ℕ) (q p : ℕ) → H (a ∷ o) q p ≡ F (H o) (length o) (earlier g (length o) a) (assignment g (length o) a) q p)
     (idle : (R : ℕ → ℕ → Bool) (i : ℕ) (E L : ℕ → Bool) → ((r : ℕ) → E r ≡ false) → ((r : ℕ) → L r ≡ false) → (q p : ℕ) → F R i E L q p ≡ R q p) where
-  -- one step more: t' is t with step i added
-  pub step_more : (rows t t' : List ℕ) (i : ℕ) → leads t ≡ H (rows_of rows i)
-      → leads t' ≡ F (leads t) i (earlier g i (get_or rows i 0)) (assignment g i (get_or rows i 0)) → leads t' ≡ H (rows_of rows (i + 1))
-  step_more rows t t' i known more =
+  -- one step more: R' is R with step i added
+  pub step_more : (rows : List ℕ) (R R' : ℕ → ℕ → Bool) (i : ℕ) → R ≡ H (rows_of rows i)
+      → R' ≡ F R i (earlier g i (get_or rows i 0)) (assignment g i (get_or rows i 0)) → R' ≡ H (rows_of rows (i + 1))
+  step_more rows R R' i known more =
       more ∙ fun_ext (λ q. fun_ext (λ p. at q p)) ∙ ap H (sym (rows_more rows i))
     where
       a : ℕ
       a = get_or rows i 0
 
-      at : (q p : ℕ) → F (leads t) i (earlier g i a) (assignment g i a) q p ≡ H (a ∷ rows_of rows i) q p
+      at : (q p : ℕ) → F R i (earlier g i a) (assignment g i a) q p ≡ H (a ∷ rows_of rows i) q p
       at q p =
           ap (λ (R : ℕ → ℕ → Bool). F R i (earlier g i a) (assignment g i a) q p) known
           ∙ ap (λ (k : ℕ). F (H (rows_of rows i)) k (earlier g k a) (assignment g k a) q p) (sym (length_rows rows i))

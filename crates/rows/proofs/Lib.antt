@@ -1,9 +1,9 @@
 pub mod Copies
 pub mod Gathering
 pub mod Placing
-pub mod Growing
 pub mod Adding
 pub mod Held
+pub mod Ranging
 pub mod Scanning
 pub mod Searching
 pub mod Rising

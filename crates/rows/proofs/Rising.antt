@@ -12,7 +12,7 @@ use Rattle.rows.specs.Moves.{rise_of, told_by, moved_to, Moved}
 use Rattle.rows.specs.Relations.{rows_of}
 use Rattle.rows.proofs.Held.{length_rows, rows_same}
 
-zero_rows : (xs : List ℕ) (n : ℕ) → ((k : ℕ) → k < n → get_or xs k 0 ≡ 0) → rows_of xs n ≡ lowest n
+pub zero_rows : (xs : List ℕ) (n : ℕ) → ((k : ℕ) → k < n → get_or xs k 0 ≡ 0) → rows_of xs n ≡ lowest n
 unfolding rows_of lowest
 zero_rows xs zero h = refl
 zero_rows xs (suc n) h = ap₂ (λ (x : ℕ) (o : List ℕ). x ∷ o) (h n (omega arith)) (zero_rows xs n (λ k l. h k (omega arith)))
@@ -24,7 +24,7 @@ none_rises g [] e = refl
 none_rises g (a ∷ o) e = go (next_row g o a) e (none_rises g o)
   where
     go : (r : Option ℕ)
-        → ◌≡◌ {A = Option Rise} (elim r [ Some b ↦ Some (record { step = length o; row = b }) | None ↦ rise_of g o ]) None
+        → ◌≡◌ {A = Option Rise} (elim r [ Some b ↦ Some (record { step = length o; row = record { bits = b } }) | None ↦ rise_of g o ]) None
         → (rise_of g o ≡ None → successor g o ≡ None)
         → ◌≡◌ {A = Option (List ℕ)} (elim r [ Some b ↦ Some (b ∷ o) | None ↦ elim (successor g o) [ Some p ↦ Some (0 ∷ p) | None ↦ None ] ]) None
     go (Some b) e ih = absurd (let z : ◌≡◌ {A = ℕ} 0 1 = cc in omega arith)
@@ -33,7 +33,7 @@ none_rises g (a ∷ o) e = go (next_row g o a) e (none_rises g o)
 -- ys are the rows xs after the level of r rose: as before below it, its new row, and zeros above
 pub record Risen (xs ys : List ℕ) (n : ℕ) (r : Rise) : Type 0 where
   pub kept : (k : ℕ) → k < r.step → get_or ys k 0 ≡ get_or xs k 0
-  pub here : get_or ys r.step 0 ≡ r.row
+  pub here : get_or ys r.step 0 ≡ r.row.bits
   pub gone : (k : ℕ) → r.step < k → k < n → get_or ys k 0 ≡ 0
 
 -- they are the successor's, and the level is the first that changed
@@ -50,16 +50,16 @@ one_rises g xs ys (suc n) r e h = go (next_row g (rows_of xs n) (get_or xs n 0))
     long = length_rows xs n
 
     go : (q : Option ℕ)
-        → ◌≡◌ {A = Option Rise} (elim q [ Some b ↦ Some (record { step = length o; row = b }) | None ↦ rise_of g o ]) (Some r)
+        → ◌≡◌ {A = Option Rise} (elim q [ Some b ↦ Some (record { step = length o; row = record { bits = b } }) | None ↦ rise_of g o ]) (Some r)
         → (rise_of g o ≡ Some r → Risen xs ys n r → (successor g o ≡ Some (rows_of ys n)) × (changed g o ≡ r.step) × (r.step < n))
         → (◌≡◌ {A = Option (List ℕ)} (elim q [ Some b ↦ Some (b ∷ o) | None ↦ elim (successor g o) [ Some p ↦ Some (0 ∷ p) | None ↦ None ] ])
         (Some (get_or ys n 0 ∷ rows_of ys n)))
         × (elim q as (λ _. ℕ) [ Some b ↦ length o | None ↦ changed g o ] ≡ r.step)
         × (r.step < suc n)
     go (Some b) e ih =
-        let top : record { step = length o; row = b } ≡ r = cc in
+        let top : record { step = length o; row = record { bits = b } } ≡ r = cc in
         let level : length o ≡ r.step = ap (λ (x : Rise). x.step) top in
-        let row : b ≡ r.row = ap (λ (x : Rise). x.row) top in
+        let row : b ≡ r.row.bits = ap (λ (x : Rise). x.row.bits) top in
         let there : get_or ys n 0 ≡ b = ap (λ (k : ℕ). get_or ys k 0) (sym long ∙ level) ∙ h.here ∙ sym row in (
           ap₂ (λ (x : ℕ) (p : List ℕ). Some (x ∷ p)) (sym there) (rows_same xs ys n (λ k l. sym (h.kept k (omega (arith, level, long))))),
           level,
@@ -74,26 +74,26 @@ one_rises g xs ys (suc n) r e h = go (next_row g (rows_of xs n) (get_or xs n 0))
         )
 
 -- what `clear` leaves: zeros from one row up to another, and all others as they were
-cut_in : (from to k x : ℕ) → from ≤ k → k < to → cond (leb from k && ltb k to) 0 x ≡ 0
+pub cut_in : (from to k x : ℕ) → from ≤ k → k < to → cond (leb from k && ltb k to) 0 x ≡ 0
 cut_in from to k x h l = grind (arith, nat_tests)
 
-cut_below : (from to k x : ℕ) → k < from → cond (leb from k && ltb k to) 0 x ≡ x
+pub cut_below : (from to k x : ℕ) → k < from → cond (leb from k && ltb k to) 0 x ≡ x
 cut_below from to k x h = grind (arith, nat_tests)
 
-cut_past : (from to k x : ℕ) → to ≤ k → cond (leb from k && ltb k to) 0 x ≡ x
+pub cut_past : (from to k x : ℕ) → to ≤ k → cond (leb from k && ltb k to) 0 x ≡ x
 cut_past from to k x h = grind (arith, nat_tests)
 
 -- xs with the new row was cleared above it
 pub cleared : (xs ys : List ℕ) (n : ℕ) (r : Rise) → r.step < n → r.step < length xs
-    → ((k : ℕ) → get_or ys k 0 ≡ cond (leb (r.step + 1) k && ltb k n) 0 (get_or (set xs r.step r.row) k 0))
+    → ((k : ℕ) → get_or ys k 0 ≡ cond (leb (r.step + 1) k && ltb k n) 0 (get_or (set xs r.step r.row.bits) k 0))
     → Risen xs ys n r × ((k : ℕ) → n ≤ k → get_or ys k 0 ≡ get_or xs k 0)
 cleared xs ys n r below room is = (
   record {
-    kept = λ k l. is k ∙ cut_below (r.step + 1) n k _ (omega arith) ∙ get_or-set_other xs r.step k r.row 0 (omega arith);
-    here = is r.step ∙ cut_below (r.step + 1) n r.step _ (omega arith) ∙ get_or-set_same xs r.step r.row 0 room;
+    kept = λ k l. is k ∙ cut_below (r.step + 1) n k _ (omega arith) ∙ get_or-set_other xs r.step k r.row.bits 0 (omega arith);
+    here = is r.step ∙ cut_below (r.step + 1) n r.step _ (omega arith) ∙ get_or-set_same xs r.step r.row.bits 0 room;
     gone = λ k l m. is k ∙ cut_in (r.step + 1) n k _ (omega arith) m;
   },
-  λ k l. is k ∙ cut_past (r.step + 1) n k _ l ∙ get_or-set_other xs r.step k r.row 0 (omega arith),
+  λ k l. is k ∙ cut_past (r.step + 1) n k _ l ∙ get_or-set_other xs r.step k r.row.bits 0 (omega arith),
 )
 
 -- xs was cleared from the first row on

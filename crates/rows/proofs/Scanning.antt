@@ -1,9 +1,11 @@
 -- Going along W from its last place to its first, until a place has 0.
 -- Assumes nothing.
-use Rattle.std.proofs.Common.{◌≡◌, ℕ, zero, suc, ◌<◌, ◌≤◌, Bool, true, false, not, ◌&&◌, ◌||◌, eqb, List, [], ◌∷◌, length, get_or, drop, Some, None, Option, sym, refl, ap, ◌∙◌, ap₂, inl, inr, not-suc-le-zero, arith, drop_of_length-le, drop-cons}
+use Rattle.std.proofs.Common.{◌≡◌, ℕ, zero, suc, ◌-◌, ◌<◌, ◌≤◌, Bool, true, false, not, ◌&&◌, ◌||◌, eqb, List, [], ◌∷◌, length, get_or, drop, reverse, Some, None, Option, sym, refl, ap, ◌∙◌, ap₂, inl, inr, not-suc-le-zero, arith, drop_of_length-le, drop-cons}
+use Rattle.std.proofs.lemmas.List.{length-reverse, get_or-reverse, get_or_read}
 use Rattle.std.proofs.lemmas.Bool.{cases_Bool}
+use Rattle.std.proofs.Math.Bool.{or_comm, and-true}
 use Rattle.bits.specs.Sets.{has}
-use Rattle.bits.proofs.Tests.{or_swap, eqb_swap, and_true}
+use Rattle.bits.proofs.Tests.{eqb_swap}
 use Rattle.orientations.specs.Assignments.{last_zero, raised}
 use Rattle.orientations.specs.Placing.{holds, behind}
 use Rattle.orientations.proofs.Standing.{In, in_here, in_later, holds_in, Once, once_later, once_apart, behind_here, behind_later}
@@ -46,18 +48,20 @@ unfolding last_zero holds
 scan_start w f k ones h is =
     let none : drop k w ≡ [] = drop_of_length-le w h in (
       ap (λ xs. last_zero xs f) none,
-      λ p. is p ∙ sym (and_true (f p)) ∙ ap (λ xs. f p && not (holds xs p)) (sym none),
+      λ p. is p ∙ sym (and-true (f p)) ∙ ap (λ xs. f p && not (holds xs p)) (sym none),
     )
 
-module _ (w : List ℕ) (f : ℕ → Bool) (once : Once w) (k ones : ℕ) (lt : k < length w) (h : Scan w f (suc k) ones) where
-  abbrev j : ℕ
-  j = get_or w k 0
+-- where the last n places were passed, and j is the next from the back
+pub next_back : (w : List ℕ) (n j : ℕ) → n < length (reverse w) → j ≡ get_or (reverse w) n j → (n < length w) × (j ≡ get_or w (length w - 1 - n) 0)
+next_back w n j h e =
+    let lt : n < length w = simp length-reverse at h in (lt, get_or_read w (length w - 1 - n) j (omega arith) (e ∙ get_or-reverse w n j lt) 0)
 
+module _ (w : List ℕ) (f : ℕ → Bool) (once : Once w) (k j ones : ℕ) (lt : k < length w) (at : j ≡ get_or w k 0) (h : Scan w f (suc k) ones) where
   abbrev later : List ℕ
   later = drop (suc k) w
 
   here : drop k w ≡ j ∷ later
-  here = drop-cons w k 0 lt
+  here = drop-cons w k 0 lt ∙ ap (λ (x : ℕ). x ∷ later) (sym at)
 
   not_later : holds later j ≡ false
   not_later =
@@ -65,7 +69,7 @@ module _ (w : List ℕ) (f : ℕ → Bool) (once : Once w) (k ones : ℕ) (lt : 
       elim (cases_Bool (holds later j)) [ inl e ↦ absurd (once_apart j later apart j (holds_in later j e) refl) | inr e ↦ e ]
 
   at_j : has ones j ≡ f j
-  at_j = h.1 j ∙ ap (λ (b : Bool). f j && not b) not_later ∙ and_true (f j)
+  at_j = h.1 j ∙ ap (λ (b : Bool). f j && not b) not_later ∙ and-true (f j)
 
   -- the rightmost 0 from place k on
   from_here : last_zero (drop k w) f ≡ elim (f j) as (λ _. Option ℕ) [ true ↦ None | false ↦ Some j ]
@@ -78,8 +82,7 @@ module _ (w : List ℕ) (f : ℕ → Bool) (once : Once w) (k ones : ℕ) (lt : 
       h.0
 
   -- the place has 1: go on, without its step
-  pub scan_more : (rest : ℕ) → has ones (get_or w k 0) ≡ true → ((p : ℕ) → has rest p ≡ (has ones p && not (eqb p (get_or w k 0))))
-      → Scan w f k rest
+  pub scan_more : (rest : ℕ) → has ones j ≡ true → ((p : ℕ) → has rest p ≡ (has ones p && not (eqb p j))) → Scan w f k rest
   unfolding holds
   scan_more rest e less = (
     from_here ∙ ap (λ (b : Bool). elim b as (λ _. Option ℕ) [ true ↦ None | false ↦ Some j ]) (sym at_j ∙ e),
@@ -95,16 +98,15 @@ module _ (w : List ℕ) (f : ℕ → Bool) (once : Once w) (k ones : ℕ) (lt : 
       both true false true = refl
       both true false false = refl
 
-  module _ (off : has ones (get_or w k 0) ≡ false) where
+  module _ (off : has ones j ≡ false) where
     -- the place has 0: it is the rightmost
-    pub scan_found : last_zero w f ≡ Some (get_or w k 0)
+    pub scan_found : last_zero w f ≡ Some j
     scan_found =
         last_drop k w f j (from_here ∙ ap (λ (b : Bool). elim b as (λ _. Option ℕ) [ true ↦ None | false ↦ Some j ]) (sym at_j ∙ off))
 
     -- with 1 there, the places after it have 0 already
-    pub scan_raised : (more : ℕ) → ((p : ℕ) → has more p ≡ (has ones p || eqb p (get_or w k 0)))
-        → (p : ℕ) → has more p ≡ raised w f (get_or w k 0) p
+    pub scan_raised : (more : ℕ) → ((p : ℕ) → has more p ≡ (has ones p || eqb p j)) → (p : ℕ) → has more p ≡ raised w f j p
     unfolding raised
     scan_raised more is p =
-        is p ∙ ap (λ (b : Bool). b || eqb p j) (h.1 p ∙ ap (λ (b : Bool). f p && not b) (sym (behind_drop w k p once lt)))
-        ∙ or_swap (f p && not (behind j w p)) (eqb p j)
+        is p ∙ ap (λ (b : Bool). b || eqb p j) (h.1 p ∙ ap (λ (b : Bool). f p && not b) (sym (ap (λ (i : ℕ). behind i w p) at ∙ behind_drop w k p once lt)))
+        ∙ or_comm (f p && not (behind j w p)) (eqb p j)

@@ -1,11 +1,11 @@
 -- One level of the search for a step that rises: its places, and the row that it takes.
 -- Assumes nothing.
-use Rattle.std.proofs.Common.{◌≡◌, ℕ, suc, ◌<◌, ◌≤◌, Bool, true, false, cond, not, ◌&&◌, ◌||◌, eqb, List, ◌∷◌, length, get_or, Some, None, Option, sym, ap, ◌∙◌, subst, ap₂, inl, inr, arith}
+use Rattle.std.proofs.Common.{◌≡◌, ℕ, suc, ◌+◌, ◌-◌, ◌<◌, ◌≤◌, Bool, true, false, cond, not, ◌&&◌, ◌||◌, eqb, List, ◌∷◌, length, get_or, reverse, Some, None, Option, sym, ap, ◌∙◌, subst, ap₂, inl, inr, arith}
 use mathlib.Core.Path.{fun_ext}
 use Rattle.std.proofs.lemmas.Bool.{cases_Bool, and_parts, and_from}
 use Rattle.bits.specs.Sets.{width, has, mask_of, inserted}
 use Rattle.bits.proofs.Searches.{any_alike}
-use Rattle.bits.proofs.Sets.{has_all, mask_alike}
+use Rattle.bits.proofs.Sets.{Narrow, has_with, has_all, mask_alike}
 use Rattle.sheets.specs.Graphs.{Graph}
 use Rattle.orientations.specs.Assignments.{last_zero, raised, closed, rise, W, next_row}
 use Rattle.orientations.specs.Rows.{assignment, ancestor, lower_neighbours}
@@ -15,11 +15,9 @@ use Rattle.orientations.proofs.Placed.{places_once}
 use Rattle.orientations.proofs.Standing.{In, Once}
 use Rattle.rows.specs.declared.successors.Rise.{Rise}
 use Rattle.rows.specs.Moves.{rise_of}
-use Rattle.rows.specs.Relations.{leads, rows_of}
-use Rattle.rows.proofs.Adding.{has_with}
-use Rattle.rows.proofs.Growing.{Narrow}
+use Rattle.rows.specs.Relations.{leads_in, rows_of}
 use Rattle.rows.proofs.Held.{length_rows}
-use Rattle.rows.proofs.Scanning.{Scan, in_at}
+use Rattle.rows.proofs.Scanning.{Scan, in_at, next_back, scan_more, scan_found, scan_raised}
 
 -- ---- one level
 
@@ -37,7 +35,7 @@ module _ (g : Graph) (a : ℕ) (o : List ℕ) where
   abbrev N : ℕ
   N = lower_neighbours g (length o)
 
-  pub level_full : last_zero (W g o) (assignment g (length o) a) ≡ None → next_row g o a ≡ None
+  level_full : last_zero (W g o) (assignment g (length o) a) ≡ None → next_row g o a ≡ None
   unfolding next_row rise
   level_full e =
       ap
@@ -49,9 +47,9 @@ module _ (g : Graph) (a : ℕ) (o : List ℕ) where
       e
 
   -- the row that the code makes at the rightmost 0, from the table t of ancestors and the raised set `ones`
-  pub level_rises : (t : List ℕ) (j ones : ℕ) → length o ≤ width → leads t ≡ ancestor g o
+  level_rises : (t : List ℕ) (j ones : ℕ) → length o ≤ width → leads_in t ≡ ancestor g o
       → last_zero (W g o) (assignment g (length o) a) ≡ Some j → ((p : ℕ) → has ones p ≡ raised (W g o) (assignment g (length o) a) j p)
-      → next_row g o a ≡ Some (mask_of width (λ p. has (lower_neighbours g (length o)) p && closed (leads t) width (has ones) p))
+      → next_row g o a ≡ Some (mask_of width (λ p. has (lower_neighbours g (length o)) p && closed (leads_in t) width (has ones) p))
   unfolding next_row rise
   level_rises t j ones few e z is =
       ap
@@ -66,27 +64,27 @@ module _ (g : Graph) (a : ℕ) (o : List ℕ) where
       (λ p l k. let (n, c) = and_parts (has N p) _ k in (omega arith, and_from (has N p) _ n (sym (same p) ∙ c)))
       (λ p l k. let (n, c) = and_parts (has N p) _ k in (neighbour_below g (length o) p n, and_from (has N p) _ n (same p ∙ c))))
     where
-      same : (p : ℕ) → closed (ancestor g o) (length o) (raised (W g o) f j) p ≡ closed (leads t) width (has ones) p
+      same : (p : ℕ) → closed (ancestor g o) (length o) (raised (W g o) f j) p ≡ closed (leads_in t) width (has ones) p
       same p =
           sym
           (ap₂ (λ (R : ℕ → ℕ → Bool) (h : ℕ → Bool). closed R width h p) e (fun_ext is)
           ∙ closed_bound (ancestor g o) (length o) width (raised (W g o) f j) p few
           (λ q k. (ancestor_below g o q p k).0))
 
-  pub rise_here : (b : ℕ) → next_row g o a ≡ Some b → rise_of g (a ∷ o) ≡ Some (record { step = length o; row = b })
+  rise_here : (b : ℕ) → next_row g o a ≡ Some b → rise_of g (a ∷ o) ≡ Some (record { step = length o; row = record { bits = b } })
   unfolding rise_of
   rise_here b e =
-      ap (λ (r : Option ℕ). elim r as (λ _. Option Rise) [ Some b ↦ Some (record { step = length o; row = b }) | None ↦ rise_of g o ]) e
+      ap (λ (r : Option ℕ). elim r as (λ _. Option Rise) [ Some b ↦ Some (record { step = length o; row = record { bits = b } }) | None ↦ rise_of g o ]) e
 
-  pub rise_lower : next_row g o a ≡ None → rise_of g (a ∷ o) ≡ rise_of g o
+  rise_lower : next_row g o a ≡ None → rise_of g (a ∷ o) ≡ rise_of g o
   unfolding rise_of
   rise_lower e =
-      ap (λ (r : Option ℕ). elim r as (λ _. Option Rise) [ Some b ↦ Some (record { step = length o; row = b }) | None ↦ rise_of g o ]) e
+      ap (λ (r : Option ℕ). elim r as (λ _. Option Rise) [ Some b ↦ Some (record { step = length o; row = record { bits = b } }) | None ↦ rise_of g o ]) e
 
 -- ---- one level of an array
 
 -- no step stands twice in W, whatever the rows
-pub W_once : (g : Graph) (o : List ℕ) → Once (W g o)
+W_once : (g : Graph) (o : List ℕ) → Once (W g o)
 unfolding W
 W_once g o p =
     let most = places_once (ancestor g o) (length o) (length o) (lower_neighbours g (length o)) p in
@@ -113,7 +111,7 @@ module _ (g : Graph) (rows : List ℕ) (s : ℕ) (few : s ≤ width) where
       ∙ has_all width _ (λ q e. let z = neighbour_below g s q (and_parts _ _ e).0 in omega arith) p
 
   -- the place k of W is a neighbour, so it has room in a mask
-  pub array_place : (k : ℕ) → k < length (W g (rows_of rows s)) → get_or (W g (rows_of rows s)) k 0 < s
+  array_place : (k : ℕ) → k < length (W g (rows_of rows s)) → get_or (W g (rows_of rows s)) k 0 < s
   unfolding W
   array_place k l =
       let p = get_or (W g o) k 0 in
@@ -124,37 +122,59 @@ module _ (g : Graph) (rows : List ℕ) (s : ℕ) (few : s ≤ width) where
         | inr e ↦ let none = rw e at most in absurd (omega arith)
       ]
 
-  module _ (k ones : ℕ) (scan : Scan (W g (rows_of rows s)) (assignment g s (get_or rows s 0)) k ones) where
-    narrow_ones : Narrow ones
-    narrow_ones q e =
-        let z = later_below g s a q (and_parts (assignment g s a q) _ (sym (scan.1 q) ∙ e)).0 in
-        omega arith
-
-    pub ones_without : (j rest : ℕ) → rest ≡ mask_of width (λ q. has ones q && not (eqb q j)) → (p : ℕ) → has rest p ≡ (has ones p && not (eqb p j))
-    ones_without j rest is p =
-        ap (λ (m : ℕ). has m p) is ∙ has_all width _ (λ q e. narrow_ones q (and_parts (has ones q) _ e).0) p
-
-    pub ones_with : (j more : ℕ) → j < s → more ≡ inserted ones j → (p : ℕ) → has more p ≡ (has ones p || eqb p j)
-    ones_with j more l is p = ap (λ (m : ℕ). has m p) is ∙ has_with ones j p narrow_ones (omega arith)
-
+  -- no place has 0: the level does not rise
   pub array_full : last_zero (W g (rows_of rows s)) (assignment g s (get_or rows s 0)) ≡ None
       → rise_of g (rows_of rows (suc s)) ≡ rise_of g (rows_of rows s)
   unfolding rows_of
   array_full e =
       rise_lower g a o (level_full g a o (subst (λ (k : ℕ). last_zero (W g o) (assignment g k a) ≡ None) (sym (length_rows rows s)) e))
 
-  pub array_rises : (t : List ℕ) (j ones N row : ℕ) → leads t ≡ ancestor g (rows_of rows s)
-      → last_zero (W g (rows_of rows s)) (assignment g s (get_or rows s 0)) ≡ Some j
-      → ((p : ℕ) → has ones p ≡ raised (W g (rows_of rows s)) (assignment g s (get_or rows s 0)) j p) → N ≡ lower_neighbours g s
-      → row ≡ mask_of width (λ p. has N p && closed (leads t) width (has ones) p)
-      → rise_of g (rows_of rows (suc s)) ≡ Some (record { step = s; row = row })
-  unfolding rows_of
-  array_rises t j ones N row e z is is_N is_row =
-      let long = length_rows rows s in
-      let b = mask_of width (λ p. has (lower_neighbours g (length o)) p && closed (leads t) width (has ones) p) in
-      let risen = level_rises g a o t j ones (omega arith) e
-      (subst (λ (k : ℕ). last_zero (W g o) (assignment g k a) ≡ Some j) (sym long) z)
-      (subst (λ (k : ℕ). (p : ℕ) → has ones p ≡ raised (W g o) (assignment g k a) j p) (sym long) is) in
-      rise_here g a o b risen
-      ∙ ap₂ (λ (x y : ℕ). Some (record { step = x; row = y })) long
-      (ap (λ (n : ℕ). mask_of width (λ p. has n p && closed (leads t) width (has ones) p)) (ap (lower_neighbours g) long ∙ sym is_N) ∙ sym is_row)
+  -- the last n places were passed, and j is the next from the back
+  module _ (n j ones : ℕ) (scan : Scan (W g (rows_of rows s)) (assignment g s (get_or rows s 0)) (length (W g (rows_of rows s)) - n) ones)
+      (next : (n < length (reverse (W g (rows_of rows s)))) × (j ≡ get_or (reverse (W g (rows_of rows s))) n j)) where
+    abbrev w : List ℕ
+    w = W g (rows_of rows s)
+
+    abbrev k : ℕ
+    k = length w - 1 - n
+
+    at : (k < length w) × (j ≡ get_or w k 0)
+    at = let (lt, e) = next_back w n j next.0 next.1 in (omega arith, e)
+
+    here : Scan w (assignment g s (get_or rows s 0)) (suc k) ones
+    here =
+        let lt = (next_back w n j next.0 next.1).0 in
+        let turn : length w - n ≡ suc k = omega arith in
+        subst (λ (m : ℕ). Scan w (assignment g s a) m ones) turn scan
+
+    narrow_ones : Narrow ones
+    narrow_ones q e =
+        let z = later_below g s a q (and_parts (assignment g s a q) _ (sym (here.1 q) ∙ e)).0 in
+        omega arith
+
+    pub place_passed : has ones j ≡ true → (rest : ℕ) → rest ≡ mask_of width (λ q. has ones q && not (eqb q j))
+        → Scan (W g (rows_of rows s)) (assignment g s (get_or rows s 0)) (length (W g (rows_of rows s)) - (n + 1)) rest
+    place_passed on rest is =
+        let turn : k ≡ length w - (n + 1) = omega arith in
+        subst (λ (m : ℕ). Scan w (assignment g s a) m rest) turn
+        (scan_more w (assignment g s a) (W_once g o) k j ones at.0 at.1 here rest on
+        (λ p. ap (λ (m : ℕ). has m p) is ∙ has_all width _ (λ q e. narrow_ones q (and_parts (has ones q) _ e).0) p))
+
+    -- the row that the code makes there, from the table t of ancestors and the neighbours N
+    pub place_rises : has ones j ≡ false → (t : List ℕ) (more N row : ℕ) → leads_in t ≡ ancestor g (rows_of rows s) → more ≡ inserted ones j
+        → N ≡ lower_neighbours g s → row ≡ mask_of width (λ p. has N p && closed (leads_in t) width (has more) p)
+        → rise_of g (rows_of rows (suc s)) ≡ Some (record { step = s; row = record { bits = row } })
+    unfolding rows_of
+    place_rises off t more N row e is_more is_N is_row =
+        let long = length_rows rows s in
+        let b = mask_of width (λ p. has (lower_neighbours g (length o)) p && closed (leads_in t) width (has more) p) in
+        let is : (p : ℕ) → has more p ≡ raised w (assignment g s a) j p =
+        scan_raised w (assignment g s a) (W_once g o) k j ones at.0 at.1 here off more
+        (λ p. ap (λ (m : ℕ). has m p) is_more ∙ has_with ones j p narrow_ones (let z = array_place k at.0 in omega (arith, at.1))) in
+        let risen = level_rises g a o t j more (omega arith) e
+        (subst (λ (k : ℕ). last_zero (W g o) (assignment g k a) ≡ Some j) (sym long)
+        (scan_found w (assignment g s a) (W_once g o) k j ones at.0 at.1 here off))
+        (subst (λ (k : ℕ). (p : ℕ) → has more p ≡ raised (W g o) (assignment g k a) j p) (sym long) is) in
+        rise_here g a o b risen
+        ∙ ap₂ (λ (x y : ℕ). Some (record { step = x; row = record { bits = y } })) long
+        (ap (λ (n : ℕ). mask_of width (λ p. has n p && closed (leads_in t) width (has more) p)) (ap (lower_neighbours g) long ∙ sym is_N) ∙ sym is_row)

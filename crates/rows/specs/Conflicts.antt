@@ -1,21 +1,21 @@
 -- The conflict graph that copied clashes mean.
-use Rattle.std.specs.Prelude.{ℕ, ◌≤◌, false, List, refl}
+use Rattle.std.specs.Prelude.{ℕ, ◌≤◌, false, refl}
 use Rattle.std.proofs.lemmas.Bool.{false≢true}
+use Rattle.bits.specs.Tables.{words}
 use Rattle.sheets.specs.Fences.{fence_graph}
 use Rattle.sheets.specs.FenceLaws.{fence_lawful}
 use Rattle.sheets.specs.Graphs.{Graph, Lawful}
 use Rattle.sheets.specs.Limits.{limit}
 use Rattle.rows.specs.declared.graph.Conflicts.{Conflicts}
-use Rattle.rows.specs.Relations.{rows_of}
 
 -- n steps, none of which clash
 abbrev pub free_graph : ℕ → Graph
 free_graph n = record { steps = n; clashes = λ i j. false }
 
--- the steps below the count, with the clashes that stand in the table: the entry of the higher step holds the lower one.
--- A table is read as that of a fence, over steps that do not clash
+-- the steps below the count, with the clashes that stand in the table of pairs. The table is
+-- read as that of a fence, over steps that do not clash
 abbrev pub graph_of : Conflicts → Graph
-graph_of c = fence_graph (free_graph c.count) c.table
+graph_of c = fence_graph (free_graph c.count) (words c.pairs.lower)
 
 -- a lawful graph, where n is at most the limit
 pub free_lawful : (n : ℕ) → n ≤ limit → Lawful (free_graph n)
@@ -23,8 +23,4 @@ free_lawful n few = record { few = few; irreflexive = λ i. refl; symmetric = λ
 
 -- whatever is in the table, it means a lawful graph
 pub conflicts_lawful : (c : Conflicts) → Lawful (graph_of c)
-conflicts_lawful c = fence_lawful (free_graph c.count) c.table (free_lawful c.count c.few)
-
--- the rows of the steps of a graph, out of an array
-abbrev pub held : Conflicts → List ℕ → List ℕ
-held c rows = rows_of rows c.count
+conflicts_lawful c = fence_lawful (free_graph c.count) (words c.pairs.lower) (free_lawful c.count c.few)

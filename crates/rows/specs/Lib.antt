@@ -1,3 +1,4 @@
 pub mod Relations
 pub mod Conflicts
 pub mod Moves
+pub mod Directions

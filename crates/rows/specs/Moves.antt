@@ -9,7 +9,7 @@ use Rattle.rows.specs.declared.successors.Rise.{Rise}
 -- the highest step that has a next assignment, with the row of that assignment
 unfoldable pub rise_of : Graph → List ℕ → Option Rise
 rise_of g [] = None
-rise_of g (a ∷ o) = elim (next_row g o a) [ Some b ↦ Some (record { step = length o; row = b }) | None ↦ rise_of g o ]
+rise_of g (a ∷ o) = elim (next_row g o a) [ Some b ↦ Some (record { step = length o; row = record { bits = b } }) | None ↦ rise_of g o ]
 
 -- the step told: the lowest at which the successor differs
 abbrev pub told_by : Graph → List ℕ → Option ℕ

@@ -14,9 +14,6 @@ impl Sheet for Conflicts {
     }
 
     fn clash(&self, i: usize, j: usize) -> bool {
-        if i < j {
-            return bits::member(self.neighbours(j), i);
-        }
-        bits::member(self.neighbours(i), j)
+        i < self.count && j < self.count && self.pairs.contains(i, j)
     }
 }

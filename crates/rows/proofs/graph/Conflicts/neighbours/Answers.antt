@@ -1,8 +1,9 @@
--- A number that is no step clashes with nothing; the lower steps in a step's entry are its neighbours.
+-- A number that is no step clashes with nothing; the lower steps of a step's pairs are its neighbours.
 use Rattle.std.proofs.Common.{◌∙◌, arith}
+use Rattle.bits.specs.Tables.{words}
 use Rattle.orientations.proofs.Neighbours.{neighbours_none}
 use Rattle.rows.specs.Conflicts.{graph_of, conflicts_lawful}
-use Rattle.rows.proofs.Copies.{entry_neighbours}
+use Rattle.rows.proofs.Copies.{pair_neighbours}
 use Rattle.rows.proofs.graph.Conflicts.neighbours.Goals as goal
 
 pub returns-then-step-self : goal.returns-then-step-self
@@ -14,5 +15,4 @@ pub returns : goal.returns
 returns c =
     let self = c.args.self.now in
     let few = self.few in
-    c.intersection.ensures.answer
-    ∙ entry_neighbours self.count self.table c.args.step _ (omega arith) (omega arith) c.below.ensures.members
+    c.below.ensures ∙ pair_neighbours self.count (words self.pairs.lower) c.args.step (omega arith) (omega arith)

@@ -8,4 +8,4 @@ pub returns : goal.returns
 returns c =
     c.intersection.ensures.answer
     ∙ mask_same width _ _
-    (λ p l. ap (λ (b : Bool). has c.args.self.now.neighbours p && b) (mask_members width _ _ c.closure.ensures p l))
+    (λ p l. ap (λ (b : Bool). has c.args.self.now.neighbours.bits p && b) (mask_members width _ _ c.closure.ensures p l))

@@ -1,0 +1,10 @@
+-- The ancestors between the steps that were added.
+use Rattle.std.proofs.Common.{◌≡◌}
+use Rattle.orientations.specs.Rows.{ancestor}
+use Rattle.rows.specs.Conflicts.{graph_of}
+use Rattle.rows.specs.Directions.{held_to}
+use Rattle.rows.specs.Relations.{leads}
+use Rattle.rows.proofs.directions.Directions.ancestors.Given as goal
+
+abbrev pub invariant-loop-step : goal.invariant-loop-step
+invariant-loop-step l = leads l.relation ≡ ancestor (graph_of l.self.conflicts) (held_to l.self l.step)

@@ -1,7 +1,0 @@
--- The closure so far as it looks at the steps below the one that is looked at next.
-use Rattle.std.proofs.Common.{◌≡◌}
-use Rattle.rows.proofs.Gathering.{closed_to}
-use Rattle.rows.proofs.relations.closure.Given as goal
-
-abbrev pub invariant-loop-p : goal.invariant-loop-p
-invariant-loop-p l = l.all ≡ closed_to l.relation l.set l.p
