@@ -1,5 +1,5 @@
 -- Why two steps of a fenced runbook clash.
-use Rattle.std.specs.Prelude.{ℕ, Bool, cond, Some, None, Option}
+use Rattle.std.specs.Prelude.{ℕ, Bool, if◌then◌else◌, Some, None, Option}
 use Rattle.bits.specs.Sets.{mask_of}
 use Rattle.sheets.specs.declared.footprints.Footprint.{Footprint}
 use Rattle.sheets.specs.Limits.{columns}
@@ -9,7 +9,7 @@ use Rattle.rehearse.specs.declared.reasons.Reason.TheVariants.{Free, Columns, Fe
 
 -- by their columns where the runbook shows the clash, by fence where only the sheet over it does
 abbrev pub reason_of : Bool → Bool → Reason
-reason_of on_runbook on_sheet = cond on_runbook Columns (cond on_sheet Fence Free)
+reason_of on_runbook on_sheet = if on_runbook then Columns else if on_sheet then Fence else Free
 
 -- the columns in which two footprints meet, where both are there
 abbrev pub meeting_of : Option Footprint → Option Footprint → ℕ

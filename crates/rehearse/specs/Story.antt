@@ -1,5 +1,5 @@
 -- The story's runbook: four steps whose clashes form a ring.
-use Rattle.std.specs.Prelude.{ℕ, zero, suc, cond, List, [], ◌∷◌, ◌++◌}
+use Rattle.std.specs.Prelude.{ℕ, zero, suc, if◌then◌else◌, List, [], ◌∷◌, ◌++◌}
 use Rattle.sheets.specs.declared.footprints.Footprint.{Footprint}
 use Rattle.sheets.specs.Graphs.{Graph}
 use Rattle.sheets.specs.Footprints.{blank, reading, writing}
@@ -16,7 +16,7 @@ story =
 -- the steps below k that clash with step j, each as a pair with it
 unfoldable pub lower_pairs : Graph → ℕ → ℕ → List (ℕ × ℕ)
 lower_pairs g j zero = []
-lower_pairs g j (suc k) = lower_pairs g j k ++ cond (g.clashes k j) ((k, j) ∷ []) []
+lower_pairs g j (suc k) = lower_pairs g j k ++ (if g.clashes k j then (k, j) ∷ [] else [])
 
 -- the pairs of steps below n that clash
 unfoldable pub pairs_below : Graph → ℕ → List (ℕ × ℕ)

@@ -7,18 +7,21 @@ mod telling;
 
 use sheets::Fence;
 use std::io;
+use story::Step;
+use telling::Teller;
 
 // The runbook's steps, its clashes under no fence, one and two, and the calls that are refused.
 fn main(rt: HostRuntime) -> io::Result<()> {
     let runbook = story::runbook();
-    telling::opening(&rt)?;
-    telling::steps(&rt, &runbook)?;
-    telling::clashes(&rt, "of the runbook", &runbook, &runbook)?;
+    let teller = Teller::new(&rt, &runbook);
+    teller.opening()?;
+    teller.steps()?;
+    teller.clashes("of the runbook", &runbook)?;
     let mut fence = Fence::new(runbook);
-    telling::fence(&rt, &mut fence, story::JOIN, story::COUNT)?;
-    telling::clashes(&rt, "under the fence", &runbook, &fence)?;
+    teller.fence(&mut fence, Step::Join, Step::Count)?;
+    teller.clashes("under the fence", &fence)?;
     let mut second = Fence::new(fence);
-    telling::fence(&rt, &mut second, story::SUPPLIERS, story::UNESCAPE)?;
-    telling::clashes(&rt, "under the fence over the fence", &runbook, &second)?;
-    telling::refusals(&rt, &runbook)
+    teller.fence(&mut second, Step::Suppliers, Step::Unescape)?;
+    teller.clashes("under the fence over the fence", &second)?;
+    teller.refusals()
 }
