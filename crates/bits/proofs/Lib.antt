@@ -3,3 +3,4 @@ pub mod Sets
 pub mod Words
 pub mod Searches
 pub mod Members
+pub mod Tables

@@ -2,8 +2,9 @@
 -- Assumes nothing.
 use Rattle.std.proofs.Common.{◌≡◌, ℕ, ◌<◌, ◌≤◌, Bool, true, ◌&&◌, ◌||◌, Some, None, Option, sym, ap, ◌∙◌, inl, inr, arith}
 use Rattle.std.proofs.lemmas.Bool.{both_ways, and_parts, and_from, or_cases, or_left, or_right}
+use Rattle.std.proofs.lemmas.Bool.{false_from_ne_true}
 use Rattle.bits.specs.Sets.{has, mask_of, any, first, Lowest}
-use Rattle.bits.proofs.Tests.{same_tests, not_so}
+use Rattle.bits.proofs.Tests.{same_tests}
 use Rattle.bits.proofs.Sets.{has_mask, has_in, any_some, any_of, first_is, first_only}
 
 -- each number below i that passes f is below k and passes f'
@@ -21,10 +22,10 @@ pub first_alike : (i k : ℕ) (f f' : ℕ → Bool) → PassesOn i f k f' → Pa
 first_alike i k f f' to from = first_only k f' (first i f) (moved (first i f) (first_is i f))
   where
     moved : (o : Option ℕ) → Lowest i f o → Lowest k f' o
-    moved None none = λ q l. not_so _ (λ e. let (l', e') = from q l e in both_ways _ (none q l') e')
+    moved None none = λ q l. false_from_ne_true _ (λ e. let (l', e') = from q l e in both_ways _ (none q l') e')
     moved (Some p) (pl, pe, none) =
         let (l, e) = to p pl pe in
-        (l, e, λ q lt. not_so _ (λ h. let (l', e') = from q (omega arith) h in both_ways _ (none q lt) e'))
+        (l, e, λ q lt. false_from_ne_true _ (λ h. let (l', e') = from q (omega arith) h in both_ways _ (none q lt) e'))
 
 -- the lowest member of a set is the lowest number that passes its test
 pub first_mask : (w i : ℕ) (f : ℕ → Bool) → i ≤ w → first w (has (mask_of i f)) ≡ first i f

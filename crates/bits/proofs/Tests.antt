@@ -17,11 +17,6 @@ eqb_swap i j =
       | inr n ↦ ne_eqb i j n ∙ sym (ne_eqb j i (λ e. n (sym e)))
     ]
 
--- what does not pass is false
-pub not_so : (b : Bool) → (b ≡ true → ⊥) → b ≡ false
-not_so true h = absurd (h refl)
-not_so false h = refl
-
 -- a bound that is one higher lets in one number more
 pub ltb_beside : (r p : ℕ) → (r ≡ p → ⊥) → ltb r p ≡ ltb r (p + 1)
 ltb_beside r p n = grind (arith, nat_tests)

@@ -1,15 +1,17 @@
 //! Sets of small numbers, as masks: steps of a sheet, columns of a table.
 #![tactic(auto)]
 
-ghost use Rattle.std.specs.Prelude.{◌≡◌, ℕ, false, not, ◌&&◌, ◌||◌, ◌↔◌, IsTrue, ◌==◌, nat_lt};
+ghost use Rattle.std.specs.Prelude.{◌≡◌, ℕ, false, not, ◌&&◌, ◌||◌, ◌↔◌, IsTrue, ◌==◌, nat_lt, slice_index};
 ghost use Rattle.std.specs.Iterator.{YieldsFirst, item_count};
+ghost use Rattle.bits.specs.Tables.{words};
 ghost use Rattle.bits.specs.Sets.{width, has, mask_of, inserted, members_of, Members, first, Lowest};
 
 /// How many numbers a mask has room for.
 pub const WIDTH: usize = 32;
 
 /// A set of numbers from 0 to 31, as the bits of a word.
-#[derive(Clone, Copy, Debug, Default, Eq, PartialEq)]
+// No model: with one, a caller that puts a column sheet into a fence would get no proof today, so clauses name the word.
+#[derive(Clone, Copy, Debug, Default, Eq, Hash, Ord, PartialEq, PartialOrd)]
 pub struct Mask {
     // p is in the set where bit p is 1
     bits: u32,
@@ -105,6 +107,7 @@ impl Mask {
         if self.is_empty() {
             return None;
         }
+        // at most 31; there is no `From<u32>` for `usize`
         Some(self.bits.trailing_zeros() as usize)
     }
 
@@ -118,6 +121,13 @@ impl Mask {
         }
         Mask { bits: (1 << i) - 1 }
     }
+}
+
+/// The set at a place of a table; past the end of the table it is empty.
+pub fn set_at(table: &[Mask], i: usize) -> Mask
+    ensures { result.bits ≡ slice_index (words table.now) i }
+{
+    table.get(i).copied().unwrap_or(Mask::EMPTY)
 }
 
 /// The set that a word tells: p is in it where bit p is 1.
