@@ -2,12 +2,11 @@
 -- Assumes nothing.
 use Rattle.std.proofs.Common.{◌≡◌, ℕ, zero, suc, ◌<◌, ◌≤◌, Bool, true, false, not, ◌&&◌, ◌||◌, eqb, List, [], ◌∷◌, length, take, Some, None, Option, sym, refl, ap, ◌∙◌, ap₂, inl, inr, not-suc-le-zero, arith, take_all}
 use Rattle.std.proofs.lemmas.Bool.{both_ways, cases_lt, eq-eqb, not_from_true, and_right, and_from, and_parts, or_from}
+use Rattle.std.proofs.lemmas.Bool.{false_from_ne_true}
 use Rattle.bits.specs.Sets.{has, mask_of, any, first, Lowest}
 use Rattle.bits.proofs.Sets.{has_mask, has_in, any_some, first_is}
-use Rattle.bits.proofs.Tests.{not_so}
 use Rattle.bits.proofs.Searches.{PassesOn, any_alike, first_alike}
 use Rattle.sheets.specs.Graphs.{Graph}
-use Rattle.orientations.specs.Assignments.{W}
 use Rattle.orientations.specs.Placing.{candidate, places}
 use Rattle.orientations.specs.Rows.{grown, pointed, ancestor}
 use Rattle.orientations.proofs.Chains.{chain_below, ancestor_is}
@@ -118,11 +117,6 @@ module _ (R : ℕ → ℕ → Bool) where
         | inr l ↦ let few = places_few i i U in take_all k (places R i i U) (omega arith) ∙ sym (places_enough i k U l)
       ]
 
--- W has no more places than there are steps below
-pub W_few : (g : Graph) (o : List ℕ) → length (W g o) ≤ length o
-unfolding W
-W_few g o = places_few (ancestor g o) (length o) (length o) _
-
 -- ---- arrows and ancestors
 
 -- R holds of numbers below i alone
@@ -136,7 +130,7 @@ ancestor_below g o q p e = chain_below g o ((ancestor_is g o q p).0 e)
 -- a step with no neighbours adds no arrow, and no ancestor
 module _ (R : ℕ → ℕ → Bool) (i : ℕ) (E L : ℕ → Bool) (no_E : (r : ℕ) → E r ≡ false) (no_L : (r : ℕ) → L r ≡ false) where
   none : (f h : ℕ → Bool) → ((r : ℕ) → f r ≡ false) → any i (λ r. f r && h r) ≡ false
-  none f h off = not_so _ (λ e. let (r, l, k) = any_some i (λ r. f r && h r) e in both_ways _ (off r) (and_parts (f r) (h r) k).0)
+  none f h off = false_from_ne_true _ (λ e. let (r, l, k) = any_some i (λ r. f r && h r) e in both_ways _ (off r) (and_parts (f r) (h r) k).0)
 
   drops : (r a b : Bool) → ((r || (a && false)) || (b && false)) ≡ r
   drops true a b = refl

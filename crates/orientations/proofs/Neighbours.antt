@@ -3,9 +3,9 @@
 use Rattle.std.proofs.Common.{◌≡◌, ℕ, ◌<◌, ◌≤◌, true, false, not, ◌&&◌, nat_lt, ◌⊎◌, sym, ap, ◌∙◌, inl, inr, arith}
 use mathlib.Core.Path.{fun_ext}
 use Rattle.std.proofs.lemmas.Bool.{not-true, not_from_false, and_parts, and_from, and_left, and_right, cases_Bool, cases_lt, ltb-true, lt-ltb}
+use Rattle.std.proofs.lemmas.Bool.{false_from_ne_true}
 use Rattle.bits.specs.Sets.{width, has}
 use Rattle.bits.proofs.Sets.{has_none, has_in, has_mask, has_past, mask_ext, mask_alike}
-use Rattle.bits.proofs.Tests.{not_so}
 use Rattle.sheets.specs.Graphs.{Graph, Lawful, neighbours_of}
 use Rattle.orientations.specs.Rows.{assignment, earlier, Within, lower_neighbours}
 
@@ -80,7 +80,7 @@ module _ (g : Graph) (i : ℕ) where
 -- a number that is no step clashes with nothing
 pub clash_past : (g : Graph) → Lawful g → (i j : ℕ) → (g.steps ≤ i) ⊎ (g.steps ≤ j) → g.clashes i j ≡ false
 clash_past g laws i j h =
-    not_so _
+    false_from_ne_true _
     (λ e. let (a, b) = laws.inside i j e in elim h [ inl z ↦ omega arith | inr z ↦ omega arith ])
 
 -- under the laws of a sheet they are the neighbours that sheets answer

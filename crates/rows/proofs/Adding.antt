@@ -4,8 +4,8 @@ use Rattle.std.proofs.Common.{◌≡◌, ℕ, ◌<◌, ◌≤◌, Bool, true, fa
 use Rattle.std.proofs.lemmas.List.{get_or_past}
 use Rattle.std.proofs.lemmas.Bool.{both_ways, cases_Bool, cases_lt, lt-ltb, le-ltb, eq-eqb, eqb-true, not_from_true, not_from_false, and_left, and_right, and_from, and_parts, or_cases}
 use Rattle.std.proofs.Math.Bool.{or-false, or_comm, and_comm, and-true}
+use Rattle.std.proofs.lemmas.Bool.{false_from_ne_true}
 use Rattle.bits.specs.Sets.{width, has, mask_of, inserted, any}
-use Rattle.bits.proofs.Tests.{not_so}
 use Rattle.bits.proofs.Sets.{Narrow, mask_narrow, has_with, has_none, has_all, mask_members, any_some, any_same, any_mask}
 use Rattle.bits.proofs.Searches.{any_alike, any_or_here}
 use Rattle.orientations.specs.Assignments.{closed}
@@ -115,7 +115,7 @@ module _ (g : Graph) (R R' : ℕ → ℕ → Bool) (i a N L E : ℕ) (few : i < 
           | inr l ↦
               and_left (ltb p limit) (has O p) (le-ltb p limit l)
               ∙ sym
-              (not_so (out p)
+              (false_from_ne_true (out p)
               (λ (e : out p ≡ true).
               let (r, low, h) = any_some i (λ r. assignment g i a r && (eqb r p || R r p)) e in
               elim (or_cases (eqb r p) (R r p) (and_parts (assignment g i a r) (eqb r p || R r p) h).1) [

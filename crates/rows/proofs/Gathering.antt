@@ -1,15 +1,14 @@
 -- What the methods of a relation compute, turn by turn, where t is its table.
 -- Assumes nothing.
 use Rattle.std.proofs.Common.{◌≡◌, ℕ, ◌+◌, ◌^◌, ◌<◌, ◌≤◌, Bool, true, false, not, ◌&&◌, ◌||◌, eqb, ltb, List, [], ◌∷◌, length, get_or, set, replicate, sym, refl, ap, ◌∙◌, ap₂, inl, inr, arith, get_or-set_other, get_or-set_same}
-use lib.ListN.{length-replicate}
-use Rattle.std.proofs.lemmas.List.{get_or_past, get_or-replicate, length-map}
+use Rattle.std.proofs.lemmas.List.{get_or_past}
 use Rattle.std.proofs.lemmas.Bool.{both_ways, cases_eq, cases_lt, lt-ltb, le-ltb, ltb-true, eq-eqb, ne_eqb, and_left, and_right, and_from, and_parts, or_right}
 use Rattle.std.proofs.lemmas.Bool.Decides.{nat_tests}
 use Rattle.std.proofs.Math.Bool.{not-not, or-false, and_comm}
-use Rattle.bits.specs.declared.Mask.{Mask}
+use Rattle.std.proofs.lemmas.Bool.{false_from_ne_true}
 use Rattle.bits.specs.Sets.{width, has, mask_of, inserted, any, members_of}
-use Rattle.bits.specs.Tables.{words}
-use Rattle.bits.proofs.Tests.{not_so, ltb_beside}
+use Rattle.bits.proofs.Tables.{blank_at}
+use Rattle.bits.proofs.Tests.{ltb_beside}
 use Rattle.bits.proofs.Sets.{has_mask, has_none, has_of, has_union, has_above, has_past, mask_ext, mask_same, mask_is, any_some, any_same, any_mask}
 use Rattle.bits.proofs.Searches.{any_alike}
 use Rattle.bits.proofs.Members.{members_none, step_has, step_any}
@@ -20,16 +19,9 @@ use Rattle.sheets.specs.Limits.{limit}
 
 -- ---- the table
 
-pub words_long : (sources : List Mask) → length sources ≡ limit → length (words sources) ≡ limit
-words_long sources long = length-map sources (λ (m : Mask). m.bits) ∙ long
-
 -- where each entry is empty, nothing leads anywhere
 pub blank_none : (n q p : ℕ) → leads_in (replicate n 0) q p ≡ false
-blank_none n q p =
-    elim (cases_lt p n) [
-      | inl l ↦ ap (λ (m : ℕ). has m q) (get_or-replicate n p 0 0 l) ∙ has_none q
-      | inr g ↦ ap (λ (m : ℕ). has m q) (get_or_past (replicate n 0) p 0 (simp length-replicate g)) ∙ has_none q
-    ]
+blank_none n q p = ap (λ (m : ℕ). has m q) (blank_at n p) ∙ has_none q
 
 -- nothing leads to a number past the table
 led_low : (t : List ℕ) → length t ≡ limit → (q p : ℕ) → leads_in t q p ≡ true → p < limit
@@ -115,7 +107,7 @@ pub leading_all : (t : List ℕ) (left all : ℕ) → members_of left ≡ [] →
 leading_all t left all none q =
     sym
     (ap (λ (x : Bool). has all q || x)
-    (not_so _
+    (false_from_ne_true _
     (λ e.
     let (p, l, h) = any_some limit (λ p. has left p && leads_in t q p) e in
     both_ways _ (members_none left none p (omega arith)) (and_parts (has left p) (leads_in t q p) h).0))
@@ -214,7 +206,7 @@ module _ (t : List ℕ) (U : ℕ) where
     where
       past : (r : ℕ) → p ≤ r → led_by t U r ≡ false
       past r h =
-          not_so _
+          false_from_ne_true _
           (λ e.
           let (q, l, x) = any_some width (λ q. has U q && leads_in t q r) e in
           let low = led_low t long q r (and_parts (has U q) (leads_in t q r) x).1 in

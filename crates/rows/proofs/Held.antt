@@ -1,27 +1,14 @@
 -- Rows held in an array, and the relations of the steps below a number, step by step.
 -- Assumes nothing.
-use Rattle.std.proofs.Common.{◌≡◌, ℕ, zero, suc, ◌+◌, ◌<◌, ◌≤◌, Bool, false, List, ◌∷◌, length, get_or, take, replicate, sym, refl, ap, ◌∙◌, subst, ap₂, inl, inr, not-suc-le-zero, add-one, arith, length-take, get_or-take}
+use Rattle.std.proofs.Common.{◌≡◌, ℕ, zero, suc, ◌+◌, ◌<◌, ◌≤◌, Bool, false, List, ◌∷◌, length, get_or, sym, refl, ap, ◌∙◌, subst, ap₂, inl, inr, not-suc-le-zero, add-one, arith}
 use mathlib.Core.Path.{fun_ext}
-use lib.ListN.{length-replicate}
-use Rattle.std.proofs.lemmas.List.{get_or_past, get_or-replicate}
-use Rattle.std.proofs.lemmas.Bool.{cases_eq, cases_lt}
-use Rattle.std.proofs.Math.ListN.{get_or-map}
-use Rattle.bits.specs.declared.Mask.{Mask}
-use Rattle.bits.specs.Tables.{words}
+use Rattle.std.proofs.lemmas.Bool.{cases_eq}
 use Rattle.orientations.specs.Rows.{assignment, earlier, Within, AllWithin, lower_neighbours}
 use Rattle.orientations.proofs.Neighbours.{later_none, earlier_none}
 use Rattle.sheets.specs.Graphs.{Graph}
 use Rattle.rows.specs.Relations.{rows_of}
 
 -- ---- rows
-
--- the word of an entry of a table of sets
-pub word_at : (xs : List Mask) (i : ℕ) → (get_or xs i (record { bits = 0 })).bits ≡ get_or (words xs) i 0
-word_at xs i = sym (get_or-map (λ (m : Mask). m.bits) xs i (record { bits = 0 }))
-
--- the same for the first n entries
-pub word_in : (xs : List Mask) (n i : ℕ) → i < length (take n xs) → (get_or (take n xs) i (record { bits = 0 })).bits ≡ get_or (words xs) i 0
-word_in xs n i h = ap (λ (m : Mask). m.bits) (get_or-take n xs i (record { bits = 0 }) (omega (arith, length-take n xs))) ∙ word_at xs i
 
 pub length_rows : (xs : List ℕ) (n : ℕ) → length (rows_of xs n) ≡ n
 unfolding rows_of
@@ -31,14 +18,6 @@ length_rows xs (suc n) = ap suc (length_rows xs n)
 pub rows_more : (xs : List ℕ) (n : ℕ) → rows_of xs (n + 1) ≡ get_or xs n 0 ∷ rows_of xs n
 unfolding rows_of
 rows_more xs n = ap (rows_of xs) (add-one n)
-
--- every entry of an empty table is empty
-pub blank : (n k : ℕ) → ◌≡◌ {A = ℕ} (get_or (replicate n 0) k 0) 0
-blank n k =
-    elim (cases_lt k n) [
-      | inl l ↦ get_or-replicate n k 0 0 l
-      | inr l ↦ get_or_past (replicate n 0) k 0 (simp length-replicate l)
-    ]
 
 -- rows that agree below n
 pub rows_same : (xs ys : List ℕ) (n : ℕ) → ((k : ℕ) → k < n → get_or xs k 0 ≡ get_or ys k 0) → rows_of xs n ≡ rows_of ys n

@@ -19,7 +19,7 @@ use sheets::LIMIT;
 pub struct Directions {
     /// the steps and their clashes
     pub conflicts: Conflicts,
-    /// the row of each step
+    /// the row of each step; promises speak of those past the count too, so there is one for each number below the limit
     pub rows: [Mask; LIMIT],
 }
 
@@ -40,7 +40,7 @@ impl Directions {
     pub fn row(&self, step: usize) -> Mask
         ensures { result.bits ≡ slice_index (words self.now.rows) step }
     {
-        self.rows.get(step).copied().unwrap_or(Mask::EMPTY)
+        bits::set_at(&self.rows, step)
     }
 
     /// Where an arrow leads from one step to another, among the steps below a level.

@@ -11,7 +11,7 @@ use bits::Mask;
 use sheets::LIMIT;
 
 /// A relation between steps: for each step, the set of those that lead to it.
-#[derive(Clone, Copy)]
+#[derive(Clone, Copy, Debug, Eq, PartialEq)]
 pub struct Relation {
     sources: [Mask; LIMIT],
 }
@@ -30,7 +30,7 @@ impl Relation {
     pub fn sources_of(&self, p: usize) -> Mask
         ensures { result.bits ≡ slice_index (words self.now.sources) p }
     {
-        self.sources.get(p).copied().unwrap_or(Mask::EMPTY)
+        bits::set_at(&self.sources, p)
     }
 
     // Lets each step of `more` lead to p.
@@ -83,6 +83,7 @@ impl Relation {
         for (k, byte) in out.iter_mut().enumerate() {
             match self.lowest_candidate(unplaced) {
                 Some(step) => {
+                    // a candidate is below 16, so it fits
                     *byte = step as u8;
                     unplaced = unplaced.without(step);
                 }

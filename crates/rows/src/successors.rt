@@ -26,7 +26,7 @@ impl Directions {
         ensures step { IfSome result (λ rise. rise.step < (graph_of self.now.conflicts).steps) }
     {
         'rising: {
-            // a step is a number, by which the level, the row and the answer are told
+            // by a rule of the project, the search over levels and places is left by its label
             for step in (0..self.conflicts.count()).rev() {
                 let level = Level::of(self, step);
                 let mut ones = level.neighbours.intersection(self.row(step));

@@ -27,27 +27,27 @@ fn graph(count: usize, pairs: &[(usize, usize)]) -> Directions {
     Directions::lowest(Conflicts::of(&fence))
 }
 
-// The search for the successor, over levels that are made in some way; `keep` lets the places after the raised one keep
-// their value.
-fn search<F: Fn(&Directions, usize) -> Level>(
+// The search for the successor, over levels that are made in some way; `pass` tells what is left of the steps with 1 when
+// a place with 1 is passed.
+fn search<F: Fn(&Directions, usize) -> Level, P: Fn(Mask, usize) -> Mask>(
     directions: &mut Directions,
     level_of: F,
-    keep: bool,
+    pass: P,
 ) -> Option<usize>
-    requires { F.IsAlwaysCallable level_of }
+    requires level { F.IsAlwaysCallable level_of }
+    requires pass { P.IsAlwaysCallable pass }
 {
+    // over the steps by number, as the search that is right
     for step in (0..directions.conflicts.count().min(LIMIT)).rev() {
         let level = level_of(directions, step);
-        let mut ones = directions.rows[step];
+        let mut ones = directions.row(step);
         for place in level.placed().iter().rev() {
             let neighbour = usize::from(*place);
             if !ones.contains(neighbour) {
                 directions.rows[step] = level.closed(ones.with(neighbour));
                 return Some(step);
             }
-            if !keep {
-                ones = ones.without(neighbour);
-            }
+            ones = pass(ones, neighbour);
         }
         directions.rows[step] = Mask::EMPTY;
     }
@@ -60,7 +60,7 @@ fn w_from_arrows(directions: &mut Directions) -> Option<usize> {
         ancestors: at.ancestors(step),
         ..Level::over(at.conflicts.neighbours(step), at.arrows(step))
     };
-    search(directions, level_of, false)
+    search(directions, level_of, Mask::without)
 }
 
 // A mistake: the closure follows direct arrows, not ancestors.
@@ -69,12 +69,12 @@ fn closure_by_arrows(directions: &mut Directions) -> Option<usize> {
         ancestors: at.arrows(step),
         ..Level::of(at, step)
     };
-    search(directions, level_of, false)
+    search(directions, level_of, Mask::without)
 }
 
 // A mistake: places after the raised one keep their value.
 fn later_places_kept(directions: &mut Directions) -> Option<usize> {
-    search(directions, |at, step| Level::of(at, step), true)
+    search(directions, |at, step| Level::of(at, step), |ones, _| ones)
 }
 
 // What came of a walk from the lowest orientation on.

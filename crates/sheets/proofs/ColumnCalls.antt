@@ -6,7 +6,7 @@ use Rattle.std.proofs.lemmas.List.{take_more_set}
 use Rattle.std.proofs.lemmas.Bool.{lt-ltb, ltb-true, eqb-false, ne_eqb, and_parts, and_from, cases_Bool, cond-true, cond-false, not-true, not_from_false}
 use Rattle.sheets.specs.declared.footprints.Footprint.{Footprint}
 use Rattle.sheets.specs.Limits.{limit}
-use Rattle.sheets.specs.Refusals.{settled, Untouched}
+use Rattle.sheets.specs.Refusals.{settled}
 use Rattle.sheets.specs.Footprints.{blank, column_refusal, meeting}
 use Rattle.sheets.specs.Columns.{column_clash, ClashInColumn, add_refusal, after_add, note_refusal, change_latest, after_note}
 use Rattle.sheets.proofs.Meetings.{meets_in_column}

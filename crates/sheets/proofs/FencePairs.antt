@@ -2,25 +2,20 @@
 -- Assumes nothing.
 use Rattle.std.proofs.Common.{◌≡◌, ℕ, ◌<◌, ◌≤◌, min, max, Bool, true, false, not, ◌&&◌, ◌||◌, eqb, ltb, List, length, get_or, set, replicate, sym, refl, ap, ◌∙◌, ap₂, inl, inr, arith, get_or-set_other, get_or-set_same}
 use Rattle.std.proofs.lemmas.Bool.{eqb-true, lt-ltb, le-ltb, ne_eqb, cases_eq, cases_lt, cases_Bool, and_parts, and_left, and_right, or_cases}
-use Rattle.std.proofs.lemmas.List.{get_or_past, get_or-replicate}
 use Rattle.std.proofs.lemmas.Bool.Decides.{nat_tests}
 use Rattle.std.proofs.Math.Bool.{or-false, or_comm, and-true}
 use Rattle.bits.specs.Sets.{width, has, inserted}
 use Rattle.bits.proofs.Sets.{has_none, has_mask}
+use Rattle.bits.proofs.Tables.{blank_at}
 use Rattle.sheets.specs.Limits.{limit}
 use Rattle.sheets.specs.Graphs.{Graph, Lawful}
-use Rattle.sheets.specs.Fences.{fenced, is_pair, fence_refusal, fence_clash}
+use Rattle.sheets.specs.Fences.{fenced, is_pair, fence_clash}
 use Rattle.sheets.specs.FenceLaws.{fenced_swap}
 
 -- ---- an empty table
 
 pub none_fenced : (i j : ℕ) → fenced (replicate limit 0) i j ≡ false
-none_fenced i j =
-    and_right (not (eqb i j)) _
-    (elim (cases_lt (max i j) limit) [
-      | inl l ↦ ap (λ (x : ℕ). has x (min i j)) (get_or-replicate limit (max i j) 0 0 l) ∙ has_none (min i j)
-      | inr g ↦ ap (λ (x : ℕ). has x (min i j)) (get_or_past (replicate limit 0) (max i j) 0 g) ∙ has_none (min i j)
-    ])
+none_fenced i j = and_right (not (eqb i j)) _ (ap (λ (x : ℕ). has x (min i j)) (blank_at limit (max i j)) ∙ has_none (min i j))
 
 -- ---- the lower steps of a step
 

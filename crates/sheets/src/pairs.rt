@@ -11,7 +11,7 @@ use bits::Mask;
 use std::array;
 
 /// Pairs of different steps, each kept once: the higher-numbered step of a pair has the lower one in its set.
-#[derive(Clone, Copy)]
+#[derive(Clone, Copy, Debug, Eq, PartialEq)]
 pub struct Pairs {
     lower: [Mask; LIMIT],
 }
@@ -63,6 +63,6 @@ impl Pairs {
     fn lower_of(&self, step: usize) -> Mask
         ensures { result.bits ≡ slice_index (words self.now.lower) step }
     {
-        self.lower.get(step).copied().unwrap_or(Mask::EMPTY)
+        bits::set_at(&self.lower, step)
     }
 }

@@ -174,7 +174,7 @@ fn refusals_are_numbered(rt: HostRuntime) {
         Refusal::OpposedMarks,
     ];
     for (before, refusal) in in_order.iter().enumerate() {
-        assert_eq!(rt; refusal.number() as usize, before + 1);
+        assert_eq!(rt; usize::from(refusal.number()), before + 1);
     }
 }
 

@@ -10,7 +10,7 @@ mod methods;
 /// The steps and clashes of a sheet, copied: a conflict graph.
 #[derive(Clone, Copy)]
 pub struct Conflicts {
-    // how many steps there are
+    // how many steps there are, with or without clashes
     count: usize,
     // the pairs of steps that clash
     pairs: Pairs,

@@ -70,7 +70,7 @@ impl ColumnSheet {
         &self.table[..self.count]
     }
 
-    // The number of the latest step. Refused: 5 before any step.
+    // The number of the latest step: a function that lends the entry itself gets no proof yet. Refused: 5 before any step.
     fn latest(&self) -> Result<usize, Refusal>
         ensures { MatchResult result (λ k. k + 1 ≡ self.now.count) (λ e. (e ≡ NoStep) × (self.now.count ≡ 0)) }
     {

@@ -17,8 +17,8 @@ impl<S: Sheet> Fence<S> {
         ensures clashes { (p q : ℕ) → (graph_of S.Sheet.graph result).clashes p q ≡ (S.Sheet.graph below).clashes p q }
     {
         Fence {
-            pairs: Pairs::none(),
             below,
+            pairs: Pairs::none(),
         }
     }
 

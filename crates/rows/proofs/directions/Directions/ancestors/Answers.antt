@@ -7,10 +7,11 @@ use Rattle.orientations.specs.Rows.{grown, arrow, ancestor, assignment, earlier}
 use Rattle.orientations.proofs.Bounds.{grown_idle}
 use Rattle.orientations.proofs.Chains.{ancestors_tell}
 use Rattle.orientations.proofs.Neighbours.{neighbours_none}
+use Rattle.bits.proofs.Tables.{word_in}
 use Rattle.rows.specs.Conflicts.{graph_of, conflicts_lawful}
 use Rattle.rows.specs.Directions.{held_to}
 use Rattle.rows.specs.Relations.{leads, rows_of}
-use Rattle.rows.proofs.Held.{word_in, step_more, held_past}
+use Rattle.rows.proofs.Held.{step_more, held_past}
 use Rattle.rows.proofs.directions.Directions.ancestors.Goals as goal
 
 pub loop-step-init : goal.loop-step-init

@@ -5,9 +5,10 @@ use Rattle.bits.specs.Tables.{words}
 use Rattle.orientations.specs.Rows.{pointed, arrow, assignment, earlier}
 use Rattle.orientations.proofs.Bounds.{pointed_idle}
 use Rattle.orientations.proofs.Neighbours.{neighbours_none}
+use Rattle.bits.proofs.Tables.{word_in}
 use Rattle.rows.specs.Conflicts.{graph_of, conflicts_lawful}
 use Rattle.rows.specs.Relations.{leads, rows_of}
-use Rattle.rows.proofs.Held.{word_in, step_more, held_past}
+use Rattle.rows.proofs.Held.{step_more, held_past}
 use Rattle.rows.proofs.directions.Directions.arrows.Goals as goal
 
 pub loop-step-init : goal.loop-step-init

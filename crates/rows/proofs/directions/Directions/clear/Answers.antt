@@ -3,9 +3,9 @@ use Rattle.std.proofs.Common.{◌≡◌, ℕ, ◌-◌, ◌<◌, ◌≤◌, cond,
 use borrow.Rule.Slice.PartMut.{put_mid, mid_of}
 use Rattle.std.proofs.lemmas.Bool.{cases_lt}
 use Rattle.std.proofs.lemmas.List.{places}
-use Rattle.std.proofs.Math.ListN.{get_or-map}
 use Rattle.bits.specs.declared.Mask.{Mask}
 use Rattle.bits.specs.Tables.{words}
+use Rattle.bits.proofs.Tables.{word_at}
 use Rattle.rows.proofs.Rising.{cut_in, cut_below, cut_past}
 use Rattle.rows.proofs.directions.Directions.clear.Goals as goal
 
@@ -25,18 +25,15 @@ module _ (xs : List Mask) (from to k : ℕ) (order : from ≤ to) (room : to ≤
   above : to ≤ k → get_or filled k empty ≡ get_or xs k empty
   above h = search (rules, places)
 
-  word : (ys : List Mask) → get_or (words ys) k 0 ≡ (get_or ys k empty).bits
-  word ys = get_or-map (λ (m : Mask). m.bits) ys k empty
-
   filled_at : get_or (words filled) k 0 ≡ cond (leb from k && ltb k to) 0 (get_or (words xs) k 0)
   filled_at =
-      word filled
+      sym (word_at filled k)
       ∙ elim (cases_lt k from) [
-        | inl h ↦ ap (λ (m : Mask). m.bits) (below h) ∙ sym (word xs) ∙ sym (cut_below from to k (get_or (words xs) k 0) h)
+        | inl h ↦ ap (λ (m : Mask). m.bits) (below h) ∙ word_at xs k ∙ sym (cut_below from to k (get_or (words xs) k 0) h)
         | inr h ↦
             elim (cases_lt k to) [
               | inl l ↦ ap (λ (m : Mask). m.bits) (inside h l) ∙ sym (cut_in from to k (get_or (words xs) k 0) h l)
-              | inr l ↦ ap (λ (m : Mask). m.bits) (above l) ∙ sym (word xs) ∙ sym (cut_past from to k (get_or (words xs) k 0) l)
+              | inr l ↦ ap (λ (m : Mask). m.bits) (above l) ∙ word_at xs k ∙ sym (cut_past from to k (get_or (words xs) k 0) l)
             ]
       ]
 

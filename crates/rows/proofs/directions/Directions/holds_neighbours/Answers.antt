@@ -1,8 +1,8 @@
 -- A row holds neighbours alone exactly where nothing is left of it without them.
 use Rattle.std.proofs.Common.{◌≡◌, ℕ, ◌<◌, ◌^◌, false, not, ◌&&◌, ◌↔◌, IsTrue, ap, sym, ◌∙◌, subst, inl, inr, arith}
 use Rattle.std.proofs.lemmas.Bool.{both_ways, cases_Bool, not-true, not_from_false, and_from, and_parts}
+use Rattle.std.proofs.lemmas.Bool.{false_from_ne_true}
 use Rattle.bits.specs.Sets.{width, has, mask_of}
-use Rattle.bits.proofs.Tests.{not_so}
 use Rattle.bits.proofs.Sets.{Narrow, narrow, has_mask, has_in}
 use Rattle.orientations.specs.Rows.{Within, lower_neighbours}
 use Rattle.sheets.specs.Graphs.{Graph}
@@ -24,7 +24,7 @@ module _ (g : Graph) (i a N D : ℕ) (is_N : N ≡ lower_neighbours g i) (is_D :
 
   nothing_left : Within g i a → (q : ℕ) → has D q ≡ false
   nothing_left w q =
-      not_so (has D q)
+      false_from_ne_true (has D q)
       (λ e.
       let h = (has_in width _ q (ap (λ (m : ℕ). has m q) (sym is_D) ∙ e)).1 in
       let (x, y) = and_parts (has a q) (not (has N q)) h in

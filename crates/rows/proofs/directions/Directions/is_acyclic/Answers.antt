@@ -1,8 +1,8 @@
 -- A chain leads from a step back to itself exactly where the step is its own ancestor.
 use Rattle.std.proofs.Common.{◌≡◌, ℕ, ◌<◌, Bool, false, ◌↔◌, IsTrue, List, length, refl, subst, arith, rules, tests}
 use Rattle.std.proofs.lemmas.Bool.{both_ways}
+use Rattle.std.proofs.lemmas.Bool.{false_from_ne_true}
 use Rattle.bits.specs.Tables.{words}
-use Rattle.bits.proofs.Tests.{not_so}
 use Rattle.orientations.specs.Arrows.{Chain, Acyclic}
 use Rattle.orientations.specs.Rows.{arrow}
 use Rattle.orientations.proofs.Chains.{chain_below}
@@ -20,7 +20,7 @@ none_own : (g : Graph) (o : List ℕ) (n : ℕ) (t : ℕ → ℕ → Bool) (r : 
     → IsTrue r ↔ ((k : ℕ) → k < n → t k k ≡ false) → IsTrue r ↔ Acyclic (arrow g o)
 none_own g o n t r long tells each = (
   λ holds p chain. let low = (chain_below g o chain).0 in both_ways (t p p) (each.0 holds p (omega arith)) ((tells p p).1 chain),
-  λ none. each.1 (λ k l. not_so (t k k) (λ e. none k ((tells k k).0 e))),
+  λ none. each.1 (λ k l. false_from_ne_true (t k k) (λ e. none k ((tells k k).0 e))),
 )
 
 pub returns : goal.returns

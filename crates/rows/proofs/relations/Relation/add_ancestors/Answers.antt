@@ -1,11 +1,11 @@
 -- `lead` adds what runs before the step, and the step, to the ancestors of what runs after it; `add` adds the step's own ancestors.
 use Rattle.std.proofs.Common.{◌≡◌, true, false, eqb, ◌⊎◌, sym, ap, ◌∙◌, inl, inr, arith}
 use mathlib.Core.Path.{fun_ext}
-use Rattle.std.proofs.lemmas.List.{length-map}
 use Rattle.bits.specs.declared.Mask.{Mask}
 use Rattle.bits.specs.Sets.{inserted}
 use Rattle.bits.specs.Tables.{words}
 use Rattle.bits.proofs.Sets.{mask_narrow}
+use Rattle.bits.proofs.Tables.{words_long}
 use Rattle.orientations.proofs.Bounds.{grown_idle}
 use Rattle.orientations.proofs.Neighbours.{later_none, earlier_none, neighbours_none}
 use Rattle.rows.specs.Conflicts.{graph_of, conflicts_lawful}
@@ -43,7 +43,7 @@ returns c =
     ancestors_more g (leads c.args.self.now) (leads c.add.new.self) i c.args.row.bits c.neighbours-neighbours.result.bits
     c.intersection-later.result.bits c.difference-earlier.result.bits (omega arith) c.neighbours-neighbours.ensures
     c.intersection-later.ensures.answer c.difference-earlier.ensures.answer
-    (leads_past (words c.args.self.now.sources) (length-map c.args.self.now.sources (λ (m : Mask). m.bits) ∙ omega arith)) c.leading.result.bits I c.closure-out.result.bits (mask_narrow _ _ c.leading.ensures.answer)
+    (leads_past (words c.args.self.now.sources) (words_long c.args.self.now.sources _ (omega arith))) c.leading.result.bits I c.closure-out.result.bits (mask_narrow _ _ c.leading.ensures.answer)
     c.leading.ensures.members c.union-into.ensures.answer c.closure-out.ensures
     K own c.with.result.bits c.intersection.ensures.answer is_own c.with.ensures.answer
     (stepped _ (leads c.lead.new.self) _ i _ _ _ (omega arith) c.lead.ensures c.add.ensures) q p))

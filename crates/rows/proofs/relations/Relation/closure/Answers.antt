@@ -4,8 +4,8 @@ use Rattle.std.proofs.lemmas.Bool.{not-true, not-false}
 use Rattle.bits.specs.declared.Mask.{Mask}
 use Rattle.bits.specs.Sets.{inserted}
 use Rattle.bits.specs.Tables.{words}
-use Rattle.rows.proofs.Gathering.{words_long, apart, closed_start, closed_more, closed_skip, closed_end}
-use Rattle.rows.proofs.Held.{word_at}
+use Rattle.bits.proofs.Tables.{word_at, words_long}
+use Rattle.rows.proofs.Gathering.{apart, closed_start, closed_more, closed_skip, closed_end}
 use Rattle.rows.proofs.relations.Relation.closure.Goals as goal
 use Rattle.rows.proofs.relations.Relation.closure.Goals.{then-not-is_empty, else-not-is_empty}
 
@@ -29,4 +29,4 @@ loop-p-preserved c =
 pub returns : goal.returns
 returns c =
     let sources = c.args.self.now.sources in
-    c.loop-p.invariant ∙ closed_end (words sources) c.args.set.bits c.loop-p.p (words_long sources (omega arith)) (omega arith)
+    c.loop-p.invariant ∙ closed_end (words sources) c.args.set.bits c.loop-p.p (words_long sources _ (omega arith)) (omega arith)

@@ -4,7 +4,8 @@ use Rattle.bits.specs.declared.Mask.{Mask}
 use Rattle.bits.specs.Sets.{width, has}
 use Rattle.bits.specs.Tables.{words}
 use Rattle.bits.proofs.Sets.{has_none, mask_is}
-use Rattle.rows.proofs.Gathering.{words_long, leads_to, leading_more, leading_all}
+use Rattle.bits.proofs.Tables.{words_long}
+use Rattle.rows.proofs.Gathering.{leads_to, leading_more, leading_all}
 use Rattle.rows.proofs.relations.Relation.leading.Goals as goal
 
 pub loop-p-init : goal.loop-p-init
@@ -22,7 +23,7 @@ loop-p-preserved c =
     let inv = c.loop-p.invariant in (
       omega arith,
       λ q.
-          leading_more (words sources) (words_long sources (omega arith)) c.loop-p.p-iterator.left.bits c.next.new.self.left.bits c.in-Some.p
+          leading_more (words sources) (words_long sources _ (omega arith)) c.loop-p.p-iterator.left.bits c.next.new.self.left.bits c.in-Some.p
           c.sources_of.result.bits c.loop-p.all.bits c.union-all.result.bits c.in-Some.ensures.steps c.sources_of.ensures (omega arith) inv.0
           c.union-all.ensures.answer q
           ∙ inv.1 q,
