@@ -1,5 +1,5 @@
 //! What the program says.
-use crate::reasons::{Reason, meeting_columns, why};
+use crate::reasons::{Reason, why};
 use crate::story::{Column, Columns, Step};
 use sheets::{COLUMNS, ColumnSheet, Fence, LIMIT, Refusal, Sheet};
 use std::{fmt, io};
@@ -52,7 +52,7 @@ impl<'a, R: Print> Teller<'a, R> {
                 let reason = why(self.runbook, sheet, first as usize, second as usize);
                 self.pair(first, second, reason)?;
                 pairs = pairs.saturating_add(1);
-                if reason != Reason::Free {
+                if reason.is_some() {
                     clashing = clashing.saturating_add(1);
                 }
             }
@@ -60,15 +60,15 @@ impl<'a, R: Print> Teller<'a, R> {
         println!(self.rt; "  {clashing} of {pairs} clash")
     }
 
-    // One pair with its reason, and the columns where these are the reason.
-    fn pair(&self, first: Step, second: Step, reason: Reason) -> io::Result<()> {
+    // One pair with its reason.
+    fn pair(&self, first: Step, second: Step, reason: Option<Reason>) -> io::Result<()> {
         let i = first as usize;
         let j = second as usize;
-        print!(self.rt; "  {i} {first}, {j} {second}: {reason}")?;
-        if reason == Reason::Columns {
-            print!(self.rt; ", in {}", Columns(meeting_columns(self.runbook, i, j)))?;
+        print!(self.rt; "  {i} {first}, {j} {second}: ")?;
+        match reason {
+            Some(reason) => println!(self.rt; "{reason}"),
+            None => println!(self.rt; "free"),
         }
-        println!(self.rt)
     }
 
     /// Fences a pair, and says so.
