@@ -1,14 +1,14 @@
 -- What the machine's operations on words do to the members: `<<`, `&`, `|`, `!`, `==` and `trailing_zeros`.
 -- Assumes nothing.
-use Rattle.std.proofs.Common.{◌≡◌, ℕ, zero, suc, ◌-◌, ◌*◌, ◌/◌, ◌%◌, ◌^◌, ◌<◌, ◌≤◌, Bool, true, false, not, ◌&&◌, ◌||◌, eqb, ltb, Some, sym, refl, ap, ◌∙◌, inl, inr, not-suc-le-zero, arith, pow_pos, pow_mono}
+use Rattle.std.proofs.Common.{◌≡◌, ℕ, zero, suc, ◌+◌, ◌-◌, ◌*◌, ◌/◌, ◌%◌, ◌^◌, ◌<◌, ◌≤◌, Bool, true, false, not, ◌&&◌, ◌||◌, eqb, ltb, Some, sym, refl, ap, ◌∙◌, inl, inr, not-suc-le-zero, arith, pow_pos, pow_mono}
 use lib.Dec.{eqb-suc-suc}
 use lib.Bits.{bit_and, bit_or, and_shr, and_mod, or_shr, or_mod}
 use lib.Count.{count_trailing_zeros, under}
 use lib.Pow.{pow-lt}
-use Rattle.std.proofs.lemmas.Bool.{both_ways, not-true, not_from_false, and_from, and_left, and_right, eq-eqb, ne_eqb, lt-ltb, le-ltb, cases_Bool, cases_lt, cases_eq}
+use Rattle.std.proofs.lemmas.Bool.{both_ways, not-true, not_from_false, and_from, and_left, and_right, eq-eqb, eqb-true, eqb-false, ne_eqb, lt-ltb, le-ltb, cases_Bool, cases_lt, cases_eq}
 use Rattle.std.proofs.lemmas.Nat.{one_shl, or_lt, and_le_l}
 use Rattle.std.proofs.Math.Bool.{or-false, and-true}
-use Rattle.bits.specs.Sets.{has, mask_of, first, Lowest}
+use Rattle.bits.specs.Sets.{width, has, mask_of, first, Lowest}
 use Rattle.bits.proofs.Tests.{same_tests}
 use Rattle.bits.proofs.Sets.{has_low, has_suc, has_none, mask_ext, mask_is, mask_same, first_only}
 
@@ -181,3 +181,49 @@ trailing (suc k) m a b = go (m % 2) refl (λ e. trailing k (m / 2) (omega arith)
 
 pub first_trailing : (k m : ℕ) → 0 < m → m < 2 ^ k → Some (count_trailing_zeros k m) ≡ first k (has m)
 first_trailing k m a b = first_only k (has m) (Some (count_trailing_zeros k m)) (trailing k m a b)
+
+-- ---- m & (m - 1): all members but the lowest
+
+-- from the lowest member up, `m - 1` has what m has but for that member
+has_before : (p m q : ℕ) → has m p ≡ true → ((r : ℕ) → r < p → has m r ≡ false) → p ≤ q → has (m - 1) q ≡ (has m q && not (eqb q p))
+has_before zero m zero e low h =
+    let odd : m % 2 ≡ 1 = eqb-true (m % 2) 1 (sym (has_low m) ∙ e) in
+    has_low (m - 1) ∙ ne_eqb ((m - 1) % 2) 1 (omega arith) ∙ sym (ap (λ (t : Bool). t && false) e)
+has_before zero m (suc q) e low h =
+    let odd : m % 2 ≡ 1 = eqb-true (m % 2) 1 (sym (has_low m) ∙ e) in
+    has_suc (m - 1) q ∙ ap (λ (n : ℕ). has n q) (let z : (m - 1) / 2 ≡ m / 2 = omega arith in z) ∙ sym (has_suc m q) ∙ sym (and-true (has m (suc q)))
+    ∙ ap (λ (t : Bool). has m (suc q) && not t) (sym (ne_eqb (suc q) 0 (omega arith)))
+has_before (suc p) m zero e low h = absurd (omega arith)
+has_before (suc p) m (suc q) e low h =
+    let even : m % 2 ≡ 0 = let z = eqb-false (m % 2) 1 (sym (has_low m) ∙ low 0 (omega arith)) in omega arith in
+    has_suc (m - 1) q ∙ ap (λ (n : ℕ). has n q) (let z : (m - 1) / 2 ≡ m / 2 - 1 = omega arith in z)
+    ∙ has_before p (m / 2) q (sym (has_suc m p) ∙ e) (λ r l. sym (has_suc m r) ∙ low (suc r) (omega arith)) (omega arith)
+    ∙ ap (λ (t : Bool). t && not (eqb q p)) (sym (has_suc m q)) ∙ ap (λ (t : Bool). has m (suc q) && not t) (sym (eqb-suc-suc q p))
+
+pub rest_word : (w m p : ℕ) → m < 2 ^ w → Lowest w (has m) (Some p) → bit_and m (m - 1) ≡ mask_of w (λ q. has m q && not (eqb q p))
+rest_word w m p hm (l, e, low) = mask_is w _ _ (omega (arith, and_le_l m (m - 1))) (λ q h. has_and m (m - 1) q ∙ here q)
+  where
+    and_twice : (x y : Bool) → (x && (x && y)) ≡ (x && y)
+    and_twice true y = refl
+    and_twice false y = refl
+
+    here : (q : ℕ) → (has m q && has (m - 1) q) ≡ (has m q && not (eqb q p))
+    here q =
+        elim (cases_lt q p) [
+          | inl h ↦ rw (low q h) refl
+          | inr h ↦ rw (has_before p m q e low h) (and_twice (has m q) _)
+        ]
+
+-- as the machine takes 1 away: where there is a member, nothing wraps
+pub rest_words : (m p : ℕ) → m < 2 ^ width → Lowest width (has m) (Some p)
+    → bit_and m ((m + (2 ^ width - 1)) % 2 ^ width) ≡ mask_of width (λ q. has m q && not (eqb q p))
+rest_words m p hm (l, e, low) = rw less (rest_word width m p hm (l, e, low))
+  where
+    some : 0 < m
+    some = elim (cases_eq m 0) [
+      | inl z ↦ absurd (both_ways _ (rw z (has_none p)) e)
+      | inr z ↦ omega arith
+    ]
+
+    less : (m + (2 ^ width - 1)) % 2 ^ width ≡ m - 1
+    less = omega (arith, some)

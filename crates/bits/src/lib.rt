@@ -1,17 +1,20 @@
 //! Sets of small numbers, as masks: steps of a sheet, columns of a table.
 #![tactic(auto)]
 
-ghost use Rattle.std.specs.Prelude.{◌≡◌, ℕ, false, not, ◌&&◌, ◌||◌, ◌↔◌, IsTrue, ◌==◌, nat_lt, slice_index};
+ghost use Rattle.std.specs.Prelude.{◌≡◌, ℕ, Some, false, not, ◌&&◌, ◌||◌, ◌↔◌, IsTrue, ◌==◌, nat_lt, slice_index};
+ghost use Rattle.std.specs.Fmt.{decimal};
 ghost use Rattle.std.specs.Iterator.{YieldsFirst, item_count};
 ghost use Rattle.bits.specs.Tables.{words};
 ghost use Rattle.bits.specs.Sets.{width, has, mask_of, inserted, members_of, Members, first, Lowest};
+
+use std::fmt;
 
 /// How many numbers a mask has room for.
 pub const WIDTH: usize = 32;
 
 /// A set of numbers from 0 to 31, as the bits of a word.
 // No model: with one, a caller that puts a column sheet into a fence would get no proof today, so clauses name the word.
-#[derive(Clone, Copy, Debug, Default, Eq, Hash, Ord, PartialEq, PartialOrd)]
+#[derive(Clone, Copy, Default, Eq, Hash, Ord, PartialEq, PartialOrd)]
 pub struct Mask {
     // p is in the set where bit p is 1
     bits: u32,
@@ -111,6 +114,17 @@ impl Mask {
         Some(self.bits.trailing_zeros() as usize)
     }
 
+    // The set without its lowest member. Below a word's lowest 1, taking 1 away turns 0s into 1s, and above it nothing
+    // changes; so this needs no shift, and a loop over members waits for none.
+    fn rest(self) -> Mask
+        ensures lowest { (p : ℕ) → Lowest width (has self.bits) (Some p) → result.bits ≡ mask_of width (λ q. has self.bits q && not (q == p)) }
+        ensures none { self.bits ≡ 0 → result.bits ≡ 0 }
+    {
+        Mask {
+            bits: self.bits & self.bits.wrapping_sub(1),
+        }
+    }
+
     /// The set of all numbers below i; of all 32 where i is above 31.
     pub fn below(i: usize) -> Mask
         ensures answer { result.bits ≡ mask_of width (λ q. nat_lt q i) }
@@ -148,6 +162,15 @@ impl From<Mask> for u32 {
     }
 }
 
+/// A set is shown as its word.
+impl fmt::Debug for Mask {
+    ghost debug_output = { λ m. Some (decimal m.bits) };
+
+    fn fmt<W: fmt::Write>(&self, f: &mut fmt::Formatter<W>) -> fmt::Result {
+        fmt::Debug::fmt(&self.bits, f)
+    }
+}
+
 /// The members of a set, rising.
 #[derive(Clone, Copy, Debug)]
 pub struct IntoIter {
@@ -176,7 +199,7 @@ impl Iterator for IntoIter {
 
     fn next(&mut self) -> Option<usize> {
         let lowest = self.left.lowest()?;
-        self.left = self.left.without(lowest);
+        self.left = self.left.rest();
         Some(lowest)
     }
 }

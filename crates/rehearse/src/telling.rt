@@ -4,12 +4,13 @@ use crate::story::{Column, Columns, Step};
 use sheets::{COLUMNS, ColumnSheet, Fence, LIMIT, Refusal, Sheet};
 use std::{fmt, io};
 
-// How the order of the steps once mattered.
-const OPENING: &str = "\
-Two clerks copied product names from ledger cards, and tabs that they typed still
-stand in the names, escaped by a backslash. One customer ran suppliers, join, count
-and only then unescape: the escaped names matched no supplier, the join dropped those
-products without a word, and the buyers' report went out without them.";
+// How the order of the steps once mattered, line by line.
+const OPENING: [&str; 4] = [
+    "Two clerks copied product names from ledger cards, and tabs that they typed still",
+    "stand in the names, escaped by a backslash. One customer ran suppliers, join, count",
+    "and only then unescape: the escaped names matched no supplier, the join dropped those",
+    "products without a word, and the buyers' report went out without them.",
+];
 
 /// Tells of the story's runbook, and of sheets over it.
 #[derive(Drop)]
@@ -25,7 +26,11 @@ impl<'a, R: Print> Teller<'a, R> {
 
     /// What the runbook is about.
     pub fn opening(&self) -> io::Result<()> {
-        println!(self.rt; "{OPENING}")
+        // each line is written as soon as it is told, as all others are
+        for line in OPENING {
+            println!(self.rt; "{line}")?;
+        }
+        Ok(())
     }
 
     /// Each step with what it reads and writes.

@@ -24,9 +24,9 @@ pub blank_none : (n q p : ℕ) → leads_in (replicate n 0) q p ≡ false
 blank_none n q p = ap (λ (m : ℕ). has m q) (blank_at n p) ∙ has_none q
 
 -- nothing leads to a number past the table
-led_low : (t : List ℕ) → length t ≡ limit → (q p : ℕ) → leads_in t q p ≡ true → p < limit
-led_low t long q p e =
-    elim (cases_lt p limit) [
+led_low : (t : List ℕ) (q p : ℕ) → leads_in t q p ≡ true → p < length t
+led_low t q p e =
+    elim (cases_lt p (length t)) [
       | inl l ↦ l
       | inr g ↦ absurd (both_ways _ (ap (λ (m : ℕ). has m q) (get_or_past t p 0 (omega arith)) ∙ has_none q) e)
     ]
@@ -90,6 +90,10 @@ lead_all R left M none q p =
 abbrev pub leads_to : List ℕ → ℕ → ℕ → Bool
 leads_to t U q = any limit (λ p. has U p && leads_in t q p)
 
+-- only the members below the limit count
+pub leads_from_steps : (t : List ℕ) (set steps : ℕ) → ((p : ℕ) → p < limit → has steps p ≡ has set p) → (q : ℕ) → leads_to t steps q ≡ leads_to t set q
+leads_from_steps t set steps same q = any_same limit _ _ (λ p l. ap (λ (x : Bool). x && leads_in t q p) (same p l))
+
 -- p came, and its entry e is put in; left' holds those that are still to come
 pub leading_more : (t : List ℕ) → length t ≡ limit → (left left' p e all m : ℕ) → members_of left ≡ p ∷ members_of left' → e ≡ get_or t p 0
     → e < 2 ^ width → all < 2 ^ width → m ≡ mask_of width (λ q. has all q || has e q) → (q : ℕ)
@@ -97,7 +101,7 @@ pub leading_more : (t : List ℕ) → length t ≡ limit → (left left' p e all
 leading_more t long left left' p e all m step is fits_e fits_all union q =
     ap (λ (x : Bool). x || leads_to t left' q) (has_union all e m fits_all fits_e union q ∙ ap (λ (n : ℕ). has all q || has n q) is)
     ∙ turned (has all q) (leads_in t q p) (leads_to t left' q)
-    ∙ ap (λ (x : Bool). has all q || x) (sym (step_any left p left' step limit (leads_in t q) (omega arith) (led_low t long q)))
+    ∙ ap (λ (x : Bool). has all q || x) (sym (step_any left p left' step limit (leads_in t q) (omega arith) (λ r e. let low = led_low t q r e in omega (arith, long))))
   where
     turned : (a b c : Bool) → ((a || b) || c) ≡ (a || (b || c))
     turned true b c = refl
@@ -193,9 +197,9 @@ module _ (t : List ℕ) (U : ℕ) where
         | inr n ↦ ap (λ (x : Bool). x && led_by t U r) (ltb_beside r p n)
       ]))
 
-  pub closed_end : (p : ℕ) → length t ≡ limit → limit ≤ p → closed_to p ≡ mask_of width (closed (leads_in t) width (has U))
+  pub closed_end : (p : ℕ) → length t ≤ p → closed_to p ≡ mask_of width (closed (leads_in t) width (has U))
   unfolding closed
-  closed_end p long far =
+  closed_end p long =
       mask_same width _ _
       (λ r l.
       ap (λ (x : Bool). has U r || x)
@@ -209,5 +213,5 @@ module _ (t : List ℕ) (U : ℕ) where
           false_from_ne_true _
           (λ e.
           let (q, l, x) = any_some width (λ q. has U q && leads_in t q r) e in
-          let low = led_low t long q r (and_parts (has U q) (leads_in t q r) x).1 in
+          let low = led_low t q r (and_parts (has U q) (leads_in t q r) x).1 in
           omega arith)

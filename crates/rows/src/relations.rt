@@ -1,5 +1,6 @@
 //! A relation between steps, kept as a set for each step, and what is asked of it.
-ghost use Rattle.std.specs.Prelude.{◌≡◌, ℕ, ◌&&◌, ◌||◌, ◌++◌, false, length, drop, nat_lt, slice_index, ◌==◌};
+ghost use Rattle.std.specs.Prelude.{◌≡◌, ℕ, Some, ◌&&◌, ◌||◌, ◌++◌, false, length, drop, nat_lt, slice_index, ◌==◌};
+ghost use Rattle.std.specs.Fmt.{decimal, debug_list};
 ghost use Rattle.bits.specs.Sets.{width, has, mask_of, any, Lowest};
 ghost use Rattle.bits.specs.Tables.{words};
 ghost use Rattle.orientations.specs.Assignments.{closed};
@@ -9,9 +10,10 @@ ghost use Rattle.sheets.specs.Limits.{limit};
 
 use bits::Mask;
 use sheets::LIMIT;
+use std::fmt;
 
 /// A relation between steps: for each step, the set of those that lead to it.
-#[derive(Clone, Copy, Debug, Eq, PartialEq)]
+#[derive(Clone, Copy, Default, Eq, Hash, Ord, PartialEq, PartialOrd)]
 pub struct Relation {
     sources: [Mask; LIMIT],
 }
@@ -98,8 +100,9 @@ impl Relation {
         ensures answer { result.bits ≡ mask_of width (λ q. any limit (λ p. has set.bits p && leads self.now q p)) }
         ensures members { (q : ℕ) → has result.bits q ≡ any limit (λ p. has set.bits p && leads self.now q p) }
     {
+        let steps = set.intersection(Mask::below(LIMIT));
         let mut all = Mask::EMPTY;
-        for p in set {
+        for p in steps {
             all = all.union(self.sources_of(p));
         }
         all
@@ -116,6 +119,15 @@ impl Relation {
             }
         }
         all
+    }
+}
+
+/// A relation is shown as its table.
+impl fmt::Debug for Relation {
+    ghost debug_output = { λ relation. debug_list (λ m. Some (decimal m.bits)) relation.sources };
+
+    fn fmt<W: fmt::Write>(&self, f: &mut fmt::Formatter<W>) -> fmt::Result {
+        fmt::Debug::fmt(&self.sources, f)
     }
 }
 

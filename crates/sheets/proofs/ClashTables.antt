@@ -1,14 +1,26 @@
 -- A table in which each step has its neighbours.
 -- Assumes nothing.
 use Rattle.std.proofs.Common.{◌≡◌, ℕ, ◌<◌, ◌≤◌, min, max, ◌&&◌, ltb, List, length, get_or, sym, refl, ◌∙◌, inl, inr, arith}
-use Rattle.std.proofs.lemmas.Bool.{lt-ltb, eq-eqb, ne_eqb, cases_Bool, cases_lt, cases_order}
+use Rattle.std.proofs.lemmas.Bool.{and_right, lt-ltb, eq-eqb, ne_eqb, cases_Bool, cases_lt, cases_order}
 use Rattle.std.proofs.lemmas.List.{get_or_past}
 use Rattle.bits.specs.Sets.{width, has}
-use Rattle.bits.proofs.Sets.{has_none, has_mask}
+use Rattle.bits.proofs.Sets.{has_none, has_mask, mask_is}
 use Rattle.sheets.specs.Limits.{limit}
 use Rattle.sheets.specs.Graphs.{Graph, Lawful, neighbours_of}
 use Rattle.sheets.specs.Fences.{fenced}
 use Rattle.sheets.specs.FenceLaws.{fenced_swap}
+
+-- a number that is no step has no neighbours
+pub neighbours_past : (g : Graph) → Lawful g → (i : ℕ) → g.steps ≤ i → neighbours_of g i ≡ 0
+neighbours_past g laws i h =
+    sym
+    (mask_is width 0 _ (omega arith)
+    (λ q l.
+    has_none q
+    ∙ elim (cases_Bool (g.clashes i q)) [
+      | inl t ↦ absurd (let steps = laws.inside i q t in omega arith)
+      | inr f ↦ sym (and_right (ltb q i) (g.clashes i q) f)
+    ]))
 
 module _ (g : Graph) (laws : Lawful g) (table : List ℕ) (whole : length table ≡ limit)
     (holds : (i : ℕ) → i < limit → get_or table i 0 ≡ neighbours_of g i) where

@@ -8,7 +8,6 @@ ghost use Rattle.sheets.specs.Limits.{limit};
 use crate::interface::{Sheet, neighbours};
 use crate::limits::LIMIT;
 use bits::Mask;
-use std::array;
 
 /// Pairs of different steps, each kept once: the higher-numbered step of a pair has the lower one in its set.
 #[derive(Clone, Copy, Debug, Eq, PartialEq)]
@@ -30,9 +29,16 @@ impl Pairs {
     pub fn of<S: Sheet>(sheet: &S) -> Pairs
         ensures { (p q : ℕ) → fenced (words result.lower) p q ≡ (S.Sheet.graph sheet.now).clashes p q }
     {
-        Pairs {
-            lower: array::from_fn(|step| neighbours(sheet, step)),
+        let count = sheet.count();
+        let mut lower = [Mask::EMPTY; LIMIT];
+        for (step, set) in lower.iter_mut().enumerate() {
+            // a number that is no step clashes with none, and is not asked for
+            if step >= count {
+                break;
+            }
+            *set = neighbours(sheet, step);
         }
+        Pairs { lower }
     }
 
     /// Whether two steps are a pair, whichever is named first.

@@ -11,7 +11,7 @@ returns-in_err-lowest-clause-steps c =
 
 pub returns-clause-steps : goal.returns-clause-steps
 returns-clause-steps c =
-    members_step _ _ c.in_ok-lowest.ensures.lowest ∙ ap (λ (m : ℕ). c.in_ok-lowest.lowest ∷ members_of m) (sym c.without-self.ensures.answer)
+    members_step _ _ c.in_ok-lowest.ensures.lowest ∙ ap (λ (m : ℕ). c.in_ok-lowest.lowest ∷ members_of m) (sym (c.rest-self.ensures.lowest _ c.in_ok-lowest.ensures.lowest))
 
 pub returns-clause-goes : goal.returns-clause-goes
 returns-clause-goes c =

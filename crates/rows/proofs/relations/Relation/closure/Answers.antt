@@ -1,6 +1,7 @@
 -- A step is put in where a member of the set leads to it.
 use Rattle.std.proofs.Common.{sym, ap, ◌∙◌, arith}
 use Rattle.std.proofs.lemmas.Bool.{not-true, not-false}
+use Rattle.sheets.specs.Limits.{limit}
 use Rattle.bits.specs.declared.Mask.{Mask}
 use Rattle.bits.specs.Sets.{inserted}
 use Rattle.bits.specs.Tables.{words}
@@ -29,4 +30,4 @@ loop-p-preserved c =
 pub returns : goal.returns
 returns c =
     let sources = c.args.self.now.sources in
-    c.loop-p.invariant ∙ closed_end (words sources) c.args.set.bits c.loop-p.p (words_long sources _ (omega arith)) (omega arith)
+    c.loop-p.invariant ∙ closed_end (words sources) c.args.set.bits c.loop-p.p (let long = words_long sources limit (omega arith) in omega (arith, long))

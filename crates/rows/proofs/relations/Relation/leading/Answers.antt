@@ -1,11 +1,14 @@
 -- Each turn puts in what leads to the step that came.
-use Rattle.std.proofs.Common.{◌≡◌, ℕ, ◌||◌, ap, ◌∙◌, arith}
+use Rattle.std.proofs.Common.{◌≡◌, ℕ, ◌||◌, ◌&&◌, Bool, ap, ◌∙◌, arith}
+use Rattle.std.proofs.lemmas.Bool.{lt-ltb}
+use Rattle.std.proofs.Math.Bool.{and-true}
+use Rattle.sheets.specs.Limits.{limit}
 use Rattle.bits.specs.declared.Mask.{Mask}
 use Rattle.bits.specs.Sets.{width, has}
 use Rattle.bits.specs.Tables.{words}
 use Rattle.bits.proofs.Sets.{has_none, mask_is}
 use Rattle.bits.proofs.Tables.{words_long}
-use Rattle.rows.proofs.Gathering.{leads_to, leading_more, leading_all}
+use Rattle.rows.proofs.Gathering.{leads_to, leads_from_steps, leading_more, leading_all}
 use Rattle.rows.proofs.relations.Relation.leading.Goals as goal
 
 pub loop-p-init : goal.loop-p-init
@@ -14,7 +17,9 @@ loop-p-init c =
     let into = c.into_iter-p-iterator in (
       omega arith,
       λ q.
-          ap (λ x. x || leads_to t into.result.left.bits q) (has_none q) ∙ ap (λ (m : Mask). leads_to t m.bits q) into.ensures.into_iter_gives,
+          ap (λ x. x || leads_to t into.result.left.bits q) (has_none q) ∙ ap (λ (m : Mask). leads_to t m.bits q) into.ensures.into_iter_gives
+          ∙ leads_from_steps t c.args.set.bits c.intersection-steps.result.bits
+          (λ p l. c.intersection-steps.ensures.members p (omega arith) ∙ ap (λ (x : Bool). has c.args.set.bits p && x) (c.below.ensures.members p (omega arith) ∙ lt-ltb p limit l) ∙ and-true (has c.args.set.bits p)) q,
     )
 
 pub loop-p-preserved : goal.loop-p-preserved

@@ -1,20 +1,50 @@
--- Each step has its neighbours.
-use Rattle.std.proofs.Common.{sym, ap, ◌∙◌, rules}
-use Rattle.bits.specs.declared.Mask.{Mask}
+-- Each step has its neighbours, and a number that is no step has none.
+use Rattle.std.proofs.Common.{◌<◌, ◌≢◌, length, refl, sym, ◌∙◌, inl, inr, not-suc-le-zero, arith, length-set, get_or-set_other, get_or-set_same}
+use Rattle.std.proofs.lemmas.Bool.{cases_eq, cases_lt}
+use Rattle.std.proofs.lemmas.List.{set-get_or}
 use Rattle.bits.specs.Tables.{words}
-use Rattle.bits.proofs.Tables.{word_at, words_long}
-use Rattle.sheets.specs.Graphs.{neighbours_of}
-use Rattle.sheets.proofs.Made.{made_entries}
-use Rattle.sheets.proofs.ClashTables.{table_clashes}
+use Rattle.bits.proofs.Tables.{words_set, blank_at}
+use Rattle.sheets.specs.Limits.{limit}
+use Rattle.sheets.proofs.ClashTables.{table_clashes, neighbours_past}
 use Rattle.sheets.proofs.pairs.Pairs.of.Goals as goal
 
-pub returns : goal.returns
-returns g c =
+pub loop-step-init : goal.loop-step-init
+loop-step-init g c = (refl, λ k h. absurd (not-suc-le-zero h), λ k h. blank_at limit k)
+
+pub loop-step-preserved : goal.loop-step-preserved
+loop-step-preserved g c =
+    let items = c.loop-step.set-items in
+    let step = c.loop-step.step in
+    let (long, asked, blank) = c.loop-step.invariant in
+    let is = words_set items step c.neighbours.result in
+    let room : step < length (words items) = omega (arith, long) in (
+      rw is (simp length-set long),
+      λ k h.
+          rw is
+          (elim (cases_eq k step) [
+            | inl e ↦ rw e (rw get_or-set_same c.neighbours.ensures)
+            | inr e ↦ let ne : k ≢ step = e in rw get_or-set_other (asked k (omega arith))
+          ]),
+      λ k h. rw is (let ne : k ≢ step = omega arith in rw get_or-set_other (blank k (omega arith))),
+    )
+
+pub returns-after-loop-step : goal.returns-after-loop-step
+returns-after-loop-step g c =
+    let sheet = c.args.sheet.now in
+    let (long, asked, blank) = c.loop-step.invariant in
+    table_clashes (g.S.Sheet.graph sheet) (g.S.Sheet.laws sheet) (words c.loop-step.set-items) long (λ k h. asked k (omega arith))
+
+pub returns-then-step-count : goal.returns-then-step-count
+returns-then-step-count g c =
     let sheet = c.args.sheet.now in
     let graph = g.S.Sheet.graph sheet in
-    let made = c.from_fn.ensures.items in
-    let lower = c.from_fn.result in
-    table_clashes graph (g.S.Sheet.laws sheet) (words lower) (words_long lower _ made.long)
+    let laws = g.S.Sheet.laws sheet in
+    let items = c.loop-step.set-items in
+    let (long, asked, blank) = c.loop-step.invariant in
+    rw (set-get_or items c.loop-step.step (record { bits = 0 }))
+    (table_clashes graph laws (words items) long
     (λ k h.
-    sym (word_at lower k)
-    ∙ ap (λ (m : Mask). m.bits) (made_entries (λ i. record { bits = neighbours_of graph i }) made (λ k y q called. (search rules, search rules)) k _ h))
+    elim (cases_lt k c.loop-step.step) [
+      | inl l ↦ asked k l
+      | inr l ↦ blank k l ∙ sym (neighbours_past graph laws k (omega (arith, c.count-count.ensures)))
+    ]))
