@@ -26,7 +26,7 @@ impl<'a, R: Print> Teller<'a, R> {
 
     /// What the runbook is about.
     pub fn opening(&self) -> io::Result<()> {
-        // each line is written as soon as it is told, as all others are
+        // a write a line: where one fails, the lines before it are out
         for line in OPENING {
             println!(self.rt; "{line}")?;
         }
